@@ -1,0 +1,74 @@
+-- One voice's settings and the ten numbers that a bank smooths towards (mod.rs). Definitions only. Assumes nothing.
+use mathlib.Core.List.{List, [], _∷_, _++_}
+use mathlib.Core.Bool.{Bool, cond, _||_}
+use lib.Ieee.{Float, nan, inf, fin, isNan}
+use Rattle.lane.specs.Floats.{_⊗_, _⊘_, decimal, whole, zero, one}
+use Rattle.lane.specs.Lane.{maxOf, clampOf, exp2Of, pow10Of}
+use Rattle.filter.specs.declared.VoiceParams.{VoiceParams}
+
+-- VoiceParams::default
+unfoldable pub defaultParams : VoiceParams
+defaultParams =
+    record {
+      resonance = decimal 1 10;
+      drive = zero;
+      saturation = zero;
+      character = zero;
+      «stereo_offset» = zero;
+      mix = one;
+      level = one;
+      «morph_x» = zero;
+      «morph_y» = zero;
+    }
+
+-- clamped to 0 .. 1
+unfoldable pub heldUnit : Float → Float
+heldUnit v = clampOf v zero one
+
+-- DRIVE_DB = 24: the drive's gain into the clipper
+unfoldable pub driveGain : Float → Float
+driveGain drive = pow10Of (drive ⊗ whole 24) (whole 20)
+
+-- SATURATION_OCTAVES = 5, SATURATION_KNEE = 3: one over the resonance saturator's knee
+unfoldable pub inverseKnee : Float → Float
+inverseKnee saturation = exp2Of (saturation ⊗ whole 5) ⊘ whole 3
+
+-- a NaN or an infinity becomes 0
+unfoldable pub finiteOr0 : Float → Float
+finiteOr0 nan = zero
+finiteOr0 (inf s) = zero
+finiteOr0 (fin s m e) = fin s m e
+
+-- the level: a NaN or an infinity becomes 0, and then max(level, 0). Both are one step here, since max(0, 0) is 0
+unfoldable pub levelOf : Float → Float
+levelOf v = maxOf (finiteOr0 v) zero
+
+-- targets_of: resonance, drive, drive gain, inverse knee, offset, mix, level, character
+unfoldable pub targetsOf : VoiceParams → List Float
+targetsOf p =
+    heldUnit (p .resonance)
+    ∷ heldUnit (p .drive)
+    ∷ driveGain (heldUnit (p .drive))
+    ∷ inverseKnee (heldUnit (p .saturation))
+    ∷ finiteOr0 (p .«stereo_offset»)
+    ∷ heldUnit (p .mix)
+    ∷ levelOf (p .level)
+    ∷ heldUnit (p .character)
+    ∷ []
+
+-- a NaN becomes 0, else clamped to 0 .. 1
+unfoldable pub morphOf : Float → Float
+morphOf v = cond (isNan v) zero (heldUnit v)
+
+-- morph_targets_of
+unfoldable pub morphTargetsOf : VoiceParams → List Float
+morphTargetsOf p = morphOf (p .«morph_x») ∷ morphOf (p .«morph_y») ∷ []
+
+-- a voice's ten targets: 8 of targets_of, 2 of morph_targets_of
+unfoldable pub voiceTargets : VoiceParams → List Float
+unfolding targetsOf morphTargetsOf
+voiceTargets p = targetsOf p ++ morphTargetsOf p
+
+-- what refusal 8 names: a NaN resonance, drive, saturation, character or mix
+unfoldable pub nanKnob : VoiceParams → Bool
+nanKnob p = isNan (p .resonance) || isNan (p .drive) || isNan (p .saturation) || isNan (p .character) || isNan (p .mix)

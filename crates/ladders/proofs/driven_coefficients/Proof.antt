@@ -1,0 +1,9 @@
+-- `ladders::driven_coefficients` meets its contract: the operations are the definition's.
+use lib.Ieee.{ofBits, round}
+use Rattle.ladders.specs.Ladders.{drivenCoefficients}
+use Rattle.ladders.proofs.driven_coefficients.Statement.{statement}
+use Rattle.ladders.proofs.driven_coefficients.Tie as tie
+
+pub driven-coefficients-spec : {M : Type 1} → statement M
+unfolding drivenCoefficients ofBits round
+driven-coefficients-spec = tie.close (tie.spec (λ c κs. tt) (λ c κs. tt) (λ c κs. tt) (λ c. cc))

@@ -1,0 +1,2 @@
+pub mod Log2
+pub mod Exact

@@ -1,0 +1,43 @@
+-- `poles::pole_zero_tick` meets its contract. The loop's invariant: after j turns, the states and the signal are those of j
+-- sections in series.
+use Prim.Native.Nat.{ℕ, _≤_, _-_, min}
+use mathlib.Core.Path.{_≡_, refl, ap, _∙_}
+use denote.Ref.{now}
+use native.Mathlib.Omega.{arith}
+use native.Mathlib.Numerals.{add-one}
+use Rattle.parts.specs.Parts.{upto}
+use Rattle.lane.specs.Floats.{_⊗_}
+use Rattle.extended.specs.Extended.{Ticked, ticked}
+use Rattle.poles.specs.Poles.{poleSection, poleCoefficients, poleStage, poleSeries, poleStep}
+use Rattle.poles.proofs.pole_zero_tick.Statement.{statement}
+use Rattle.poles.proofs.pole_zero_tick.Tie as tie
+
+abbrev Inv-loop : tie.InvT-loop
+Inv-loop sections active gain state₀ x reference transpose px py n u₀ j₀ state u j =
+    (j ≤ n) × (n ≤ 8)
+    × (ticked u state ≡ upto (λ i. poleStage (poleSection sections px py transpose reference i) i) j (ticked u₀ state₀))
+
+abbrev μ-loop : tie.MeasureT-loop
+μ-loop sections active gain state₀ x reference transpose px py n u₀ j₀ state u j = n - j
+
+returns : tie.Need-returns Inv-loop μ-loop
+unfolding poleStep poleSeries poleCoefficients
+returns c =
+    let l = c .before .loop in
+    let n = c .before .before .sections-run in
+    let octaves = c .before .before .before .octaves-of in
+    let a = c .before .before .before .before .before .args in
+    let last : l .j ≡ n .result = omega arith in
+    let e : l .j ≡ min (a .active) 8 = last ∙ n .ensures in
+    ap (λ (d : Ticked). ticked (d .out ⊗ a .gain) (d .state))
+    (l .inv .2
+    ∙ (λ i.
+    upto (λ k. poleStage (poleSection (now (a .sections)) (a .p .x) (a .p .y) (octaves .ensures i) (a .p .«ref_over_rate») k) k) (e i)
+    (ticked (a .x) (now (a .state)))))
+
+pub pole-zero-tick-spec : {M : Type 1} → statement M
+pole-zero-tick-spec =
+    tie.close
+    (tie.spec
+    Inv-loop μ-loop (λ c κs. tt) (λ c κs. tt) (λ c. (omega arith, omega (arith, c .sections-run .ensures), refl)) (λ c κs. omega arith)
+    (λ c κs. omega arith) (λ c. omega arith) (λ c. omega arith) (λ c. (omega arith, omega arith, rw add-one (cc))) returns)

@@ -1,0 +1,291 @@
+-- The bank's calls on flat lists (document 01, 'A bank is opened' and 'One block goes through'). Definitions only.
+-- What the layers below make of a setup (its checks, targets_of, one tick) is an `Engine`; polyphony is the number n.
+use mathlib.Core.Path.{_≡_}
+use Prim.Native.Nat.{ℕ, _+_, _*_, _%_, _^_, _<_}
+use mathlib.Core.Bool.{Bool, true, false, cond, _&&_}
+use mathlib.Core.Option.{Option, none, some}
+use mathlib.Core.List.{List, [], _∷_, _++_}
+use lib.Ieee.{Float, nan, binary32, ofBits}
+use lib.Dec.{ltb, leb, eqb}
+use lib.ListN.{length, getD, set, replicate}
+use Rattle.parts.specs.Parts.{upto, piece, patch}
+
+-- ---- widths of the lent lists (A bank is opened)
+
+-- numbers a voice in targets: 8 of targets_of, 2 of morph_targets_of
+abbrev pub targetsWidth : ℕ
+targetsWidth = 10
+
+-- numbers of state a slot
+abbrev pub statesWidth : ℕ
+statesWidth = 20
+
+-- numbers a slot in records: 8 smoothed and 2 morph, then the states
+abbrev pub recordWidth : ℕ
+recordWidth = targetsWidth + statesWidth
+
+-- frames of a block
+abbrev pub leastFrames : ℕ
+leastFrames = 1
+
+abbrev pub mostFrames : ℕ
+mostFrames = 4096
+
+-- +0.0, which start writes to states and rings
+abbrev pub positiveZero : Float
+positiveZero = ofBits binary32 0
+
+-- ---- checks
+
+pub data Check : Type 0 where
+  fine : Check
+  refused : ℕ → Check
+
+-- refusal k unless b holds
+unfoldable pub check : Bool → ℕ → Check
+check true k = fine
+check false k = refused k
+
+infixr 30 _then_
+-- checks in order: the first that fails gives its number
+unfoldable pub _then_ : Check → Check → Check
+fine then c = c
+refused k then c = refused k
+
+-- ---- the engine: the setup without its polyphony, as the layers below read it
+
+-- x and y of a steered frame; none where the block is unsteered
+abbrev pub Steering : Type 0
+Steering = Option (Float × Float)
+
+-- what one tick of a slot leaves: its record, its ring and the sample
+pub record Tick : Type 0 where
+  pub rec : List Float
+  pub ring : List Float
+  pub out : Float
+
+pub record Engine : Type 1 where
+  -- a voice's settings (VoiceParams), their defaults, whether no knob is NaN, and their ten targets
+  pub S : Type 0
+  pub defaults : S
+  pub knobs : S → Bool
+  pub targetsOf : S → List Float
+  pub channels : ℕ
+  -- cells in a slot's ring, and the structure's mark LINES
+  pub ringLength : ℕ
+  pub lines : Bool
+  -- refusals 1 to 5 of the setup with n voices
+  pub setupCheck : (n : ℕ) → Check
+  -- points 1 to 5 of 'One block goes through', for one frame of one channel
+  pub tick : (channel : ℕ) (targets : List Float) (cursor : ℕ) (pitch input : Float) (steering : Steering) (rec ring : List Float) → Tick
+
+-- all that demand 3 asks of an engine: targets, records and rings keep their lengths
+pub record Laws (E : Engine) : Type 0 where
+  pub targets-length : (s : E .S) → length (E .targetsOf s) ≡ targetsWidth
+  pub rec-length : (c : ℕ) (tg : List Float) (cur : ℕ) (p i : Float) (st : Steering) (r d : List Float)
+      → c < E .channels → length tg ≡ targetsWidth → length r ≡ recordWidth → length d ≡ E .ringLength
+      → length (E .tick c tg cur p i st r d .rec) ≡ recordWidth
+  pub ring-length : (c : ℕ) (tg : List Float) (cur : ℕ) (p i : Float) (st : Steering) (r d : List Float)
+      → c < E .channels → length tg ≡ targetsWidth → length r ≡ recordWidth → length d ≡ E .ringLength
+      → length (E .tick c tg cur p i st r d .ring) ≡ E .ringLength
+
+-- ---- what the calls take, leave and answer
+
+-- the lent lists, by voice or slot, and the cursor
+pub record Bank : Type 0 where
+  pub targets : List Float
+  pub records : List Float
+  pub delay : List Float
+  pub cursor : ℕ
+
+-- what block is given beside the bank
+pub record Block : Type 0 where
+  pub frames : ℕ
+  pub pitch : List Float
+  pub steered : Bool
+  pub x : List Float
+  pub y : List Float
+  pub audio : List Float
+
+pub data Call (S : Type 0) : Type 0 where
+  callSet : (voice : ℕ) → S → Call S
+  callStart : (voice : ℕ) → Call S
+  callBlock : Block → Call S
+
+-- a refusal's number; of set and start the cursor they were given; of block the new cursor and the frames rendered, here with the audio that it left
+pub data Answer : Type 0 where
+  refusedCall : ℕ → Answer
+  kept : (cursor : ℕ) → Answer
+  rendered : (cursor frames : ℕ) → (audio : List Float) → Answer
+
+-- a bank and its answers so far, the newest first
+pub record Run : Type 0 where
+  pub bank : Bank
+  pub log : List Answer
+
+-- while a block goes on: the lists that it writes; and the same with one slot's record in hand
+pub record BlockRun : Type 0 where
+  pub records : List Float
+  pub delay : List Float
+  pub audio : List Float
+
+pub record SlotRun : Type 0 where
+  pub rec : List Float
+  pub delay : List Float
+  pub audio : List Float
+
+module _ (E : Engine) where
+  open Engine E using (S, defaults, knobs, targetsOf, channels, ringLength, lines, setupCheck, tick)
+
+  -- the cursor k frames on: wraps at the machine word if LINES, else stays
+  unfoldable pub cursorAfter : ℕ → ℕ → ℕ
+  cursorAfter cur k = cond lines ((cur + k) % 2 ^ 64) cur
+
+  -- a slot started: targets as smoothed and morph numbers, states and ring zero
+  abbrev pub startRecord : List Float → List Float
+  startRecord tg = tg ++ replicate statesWidth positiveZero
+
+  abbrev pub startRing : List Float
+  startRing = replicate ringLength positiveZero
+
+  module _ (n : ℕ) where
+    -- ---- places in the flat lists: the stride is n
+
+    abbrev pub slot : (channel voice : ℕ) → ℕ
+    slot c v = c * n + v
+
+    abbrev pub pitchIndex : (frame voice : ℕ) → ℕ
+    pitchIndex k v = k * n + v
+
+    abbrev pub audioIndex : (frame channel voice : ℕ) → ℕ
+    audioIndex k c v = k * (channels * n) + slot c v
+
+    -- ---- the refusals of the calls, in the order of the table (A bank is opened); 1 to 5 are `setupCheck`
+
+    -- 6, of set, which takes targets alone
+    abbrev pub targetsCheck : List Float → Check
+    targetsCheck tg = check (eqb (length tg) (n * targetsWidth)) 6
+
+    -- 6, of open, start and block
+    abbrev pub storeCheck : Bank → Check
+    storeCheck b =
+        check
+        (eqb (length (b .targets)) (n * targetsWidth)
+        && eqb (length (b .records)) (channels * n * recordWidth)
+        && eqb (length (b .delay)) (channels * n * ringLength))
+        6
+
+    -- 7
+    abbrev pub voiceCheck : ℕ → Check
+    voiceCheck v = check (ltb v n) 7
+
+    -- 8
+    abbrev pub knobCheck : S → Check
+    knobCheck s = check (knobs s) 8
+
+    -- 9
+    abbrev pub framesCheck : Block → Check
+    framesCheck q = check (leb leastFrames (q .frames) && leb (q .frames) mostFrames) 9
+
+    -- 10: a steered block has x and y of pitch's length, an unsteered one empty x and y
+    abbrev pub steeringLength : Block → ℕ
+    steeringLength q = cond (q .steered) (q .frames * n) 0
+
+    abbrev pub bufferCheck : Block → Check
+    bufferCheck q =
+        check
+        (eqb (length (q .pitch)) (q .frames * n)
+        && eqb (length (q .x)) (steeringLength q)
+        && eqb (length (q .y)) (steeringLength q)
+        && eqb (length (q .audio)) (q .frames * (channels * n)))
+        10
+
+    -- each call makes the checks whose values it takes, in that order
+    abbrev pub openVerdict : Bank → Check
+    openVerdict b = setupCheck n then storeCheck b
+
+    abbrev pub verdict : Call S → Bank → Check
+    verdict (callSet v s) b = setupCheck n then targetsCheck (b .targets) then voiceCheck v then knobCheck s
+    verdict (callStart v) b = setupCheck n then storeCheck b then voiceCheck v
+    verdict (callBlock q) b = setupCheck n then storeCheck b then framesCheck q then bufferCheck q
+
+    -- ---- set writes one voice's targets
+
+    unfoldable pub setOf : ℕ → S → Bank → Bank
+    setOf v s b = record { targets = patch targetsWidth v (targetsOf s) (b .targets); records = b .records; delay = b .delay; cursor = b .cursor }
+
+    -- ---- start copies a voice's targets to its records and zeroes its states and rings, on every channel
+
+    unfoldable pub startSlot : (voice channel : ℕ) → Bank → Bank
+    startSlot v c b = record {
+      targets = b .targets;
+      records = patch recordWidth (slot c v) (startRecord (piece targetsWidth v (b .targets))) (b .records);
+      delay = patch ringLength (slot c v) startRing (b .delay);
+      cursor = b .cursor;
+    }
+
+    unfoldable pub startOf : ℕ → Bank → Bank
+    startOf v b = upto (startSlot v) channels b
+
+    -- ---- open: the lent lists with any content, every voice set to the defaults and started, cursor 0
+
+    unfoldable pub openOf : Bank → Bank
+    openOf b = upto (λ v x. startOf v (setOf v defaults x)) n (record { targets = b .targets; records = b .records; delay = b .delay; cursor = 0 })
+
+    -- ---- block (One block goes through): for each channel and voice, frame by frame
+
+    abbrev pub steeringAt : Block → (frame voice : ℕ) → Steering
+    steeringAt q k v = cond (q .steered) (some (getD (q .x) (pitchIndex k v) nan, getD (q .y) (pitchIndex k v) nan)) none
+
+    -- the tick of frame k, channel c and voice v, with the voice's targets tg and the cursor before the block
+    abbrev pub tickOf : Block → (tg : List Float) (cursor c v k : ℕ) (audio rec ring : List Float) → Tick
+    tickOf q tg cur c v k audio r d =
+        tick c tg (cursorAfter cur k) (getD (q .pitch) (pitchIndex k v) nan) (getD audio (audioIndex k c v) nan) (steeringAt q k v) r d
+
+    -- what it leaves: the record in hand, the slot's ring and the frame's sample
+    unfoldable pub frameOf : Block → (tg : List Float) (cursor c v k : ℕ) → SlotRun → SlotRun
+    frameOf q tg cur c v k w =
+        let s = slot c v in
+        let t = tickOf q tg cur c v k (w .audio) (w .rec) (piece ringLength s (w .delay)) in
+        record { rec = t .rec; delay = patch ringLength s (t .ring) (w .delay); audio = set (w .audio) (audioIndex k c v) (t .out) }
+
+    -- the first k frames of a slot
+    unfoldable pub framesOf : Block → (tg : List Float) (cursor c v k : ℕ) → BlockRun → SlotRun
+    framesOf q tg cur c v k w = upto (frameOf q tg cur c v) k (record { rec = piece recordWidth (slot c v) (w .records); delay = w .delay; audio = w .audio })
+
+    unfoldable pub slotOf : Block → (tg : List Float) (cursor c v : ℕ) → BlockRun → BlockRun
+    slotOf q tg cur c v w =
+        let l = framesOf q tg cur c v (q .frames) w in
+        record { records = patch recordWidth (slot c v) (l .rec) (w .records); delay = l .delay; audio = l .audio }
+
+    unfoldable pub blockOf : Block → Bank → BlockRun
+    blockOf q b =
+        upto (λ c. upto (λ v. slotOf q (piece targetsWidth v (b .targets)) (b .cursor) c v) n) channels
+        (record { records = b .records; delay = b .delay; audio = q .audio })
+
+    -- ---- the calls, whole: what they leave and answer
+
+    abbrev pub accepted : Call S → Run → Run
+    accepted (callSet v s) r = record { bank = setOf v s (r .bank); log = kept (r .bank .cursor) ∷ r .log }
+    accepted (callStart v) r = record { bank = startOf v (r .bank); log = kept (r .bank .cursor) ∷ r .log }
+    accepted (callBlock q) r =
+        let w = blockOf q (r .bank) in
+        let cur = cursorAfter (r .bank .cursor) (q .frames) in
+        record { bank = record { targets = r .bank .targets; records = w .records; delay = w .delay; cursor = cur }; log = rendered cur (q .frames) (w .audio) ∷ r .log }
+
+    -- a refusal answers its number alone; lists and cursor keep their values
+    abbrev pub perform : Check → Call S → Run → Run
+    perform fine x r = accepted x r
+    perform (refused k) x r = record { bank = r .bank; log = refusedCall k ∷ r .log }
+
+    abbrev pub call : Call S → Run → Run
+    call x r = perform (verdict x (r .bank)) x r
+
+    -- a list of calls, each given lists and cursor as the last one left them
+    abbrev pub run : List (Call S) → Run → Run
+    run [] r = r
+    run (x ∷ xs) r = run xs (call x r)
+
+    -- a bank fresh from an accepted open
+    abbrev pub opened : Bank → Run
+    opened b = record { bank = openOf b; log = [] }

@@ -1,0 +1,91 @@
+-- A small made-up engine: engines with their laws exist, open is accepted, a list with a refused call has a feed that computes,
+-- and one voice stands beside its plain voice with all numbers worked out. By computation, no float opened. Assumes nothing.
+use mathlib.Core.Path.{_≡_, refl, _∙_}
+use Prim.Native.Nat.{ℕ, _+_, _*_, _%_}
+use mathlib.Core.Bool.{true, false}
+use mathlib.Core.Option.{none}
+use mathlib.Core.List.{List, [], _∷_}
+use lib.Ieee.{Float, nan, binary32, add, ofBits}
+use lib.Dec.{ltb}
+use lib.ListN.{getD, set, replicate, length-set, length-replicate}
+use Rattle.parts.specs.Parts.{tab, piece, patch}
+use Rattle.voices.specs.Calls.{targetsWidth, recordWidth, fine, refused, check, _then_, Engine, Laws, Bank, Block, Call, callSet, callStart, callBlock, cursorAfter, setOf, startSlot, startOf, openOf, frameOf, framesOf, slotOf, blockOf, slot, openVerdict, verdict, Run, run, opened}
+use Rattle.voices.specs.Feed.{Frame, Event, eventStart, eventFrame, started, fresh, ticked, advance, voiceOf, feed, samplesOf}
+use Rattle.voices.specs.Voice.{TwoBanks, corollary}
+
+-- two channels, rings of four; a tick sums the pitches in the record and adds to its input that of three frames ago
+unfoldable pub exampleEngine : Engine
+exampleEngine = record {
+  S = Float;
+  defaults = nan;
+  knobs = λ s. true;
+  targetsOf = λ s. replicate targetsWidth s;
+  channels = 2;
+  ringLength = 4;
+  lines = true;
+  setupCheck = λ n. check (ltb n 17) 3;
+  tick = λ c tg cur p i st r d. record {
+    rec = set r 0 (add binary32 (getD r 0 nan) p);
+    ring = set d (cur % 4) i;
+    out = add binary32 i (getD d ((cur + 1) % 4) nan);
+  };
+}
+
+exampleLaws : Laws exampleEngine
+unfolding exampleEngine
+exampleLaws = record {
+  targets-length = λ s. length-replicate targetsWidth s;
+  rec-length = λ c tg cur p i st r d hc ht hr hd. length-set r 0 _ ∙ hr;
+  ring-length = λ c tg cur p i st r d hc ht hr hd. length-set d (cur % 4) _ ∙ hd;
+}
+
+sixteen-and-one : TwoBanks exampleEngine 16 1
+sixteen-and-one = corollary exampleEngine exampleLaws 16 1
+
+-- lists for three voices, with any content
+lists : Bank
+lists = record { targets = replicate (3 * targetsWidth) nan; records = replicate (6 * recordWidth) nan; delay = replicate (6 * 4) nan; cursor = 7 }
+
+open-is-accepted : openVerdict exampleEngine 3 lists ≡ fine
+unfolding exampleEngine check _then_ lists
+open-is-accepted = refl
+
+-- the float of each bit pattern, to tell numbers apart
+abbrev number : ℕ → Float
+number k = ofBits binary32 k
+
+block : Block
+block = record { frames = 2; pitch = tab number 6; steered = false; x = []; y = []; audio = tab number 12 }
+
+calls : List (Call (exampleEngine .S))
+unfolding exampleEngine
+calls = callStart 3 ∷ callSet 0 nan ∷ callBlock block ∷ callStart 1 ∷ callBlock block ∷ []
+
+voice-is-refused : verdict exampleEngine 3 (callStart 3) lists ≡ refused 7
+unfolding exampleEngine check _then_ lists
+voice-is-refused = refl
+
+after : Run
+after = run exampleEngine 3 calls (opened exampleEngine 3 lists)
+
+feedOfOne : List (Event (exampleEngine .S))
+feedOfOne = feed exampleEngine 3 1 calls (opened exampleEngine 3 lists)
+
+frame0 : Frame
+frame0 = record { pitch = number 1; inputs = number 1 ∷ number 4 ∷ []; steering = none }
+
+frame1 : Frame
+frame1 = record { pitch = number 4; inputs = number 7 ∷ number 10 ∷ []; steering = none }
+
+feed-computes : feedOfOne ≡ eventFrame frame0 ∷ eventFrame frame1 ∷ eventStart ∷ eventFrame frame0 ∷ eventFrame frame1 ∷ []
+unfolding exampleEngine check _then_ lists block calls feedOfOne frame0 frame1 openOf startOf startSlot setOf blockOf slotOf framesOf frameOf piece patch cursorAfter
+feed-computes = refl
+
+-- voice 1 and the plain voice of its feed, on the second channel
+side-by-side :
+    (piece recordWidth (slot exampleEngine 3 1 1) (after .bank .records) ≡ voiceOf exampleEngine feedOfOne .channel 1 .rec)
+    × (piece 4 (slot exampleEngine 3 1 1) (after .bank .delay) ≡ voiceOf exampleEngine feedOfOne .channel 1 .ring)
+    × (samplesOf exampleEngine 3 1 1 (after .log) ≡ voiceOf exampleEngine feedOfOne .channel 1 .samples)
+    × (after .bank .cursor ≡ voiceOf exampleEngine feedOfOne .cursor)
+unfolding exampleEngine check _then_ lists block calls after feedOfOne fresh started ticked advance openOf startOf startSlot setOf blockOf slotOf framesOf frameOf piece patch cursorAfter
+side-by-side = (refl, refl, refl, refl)

@@ -1,0 +1,1 @@
+// The bank's calls, and a voice from its feed: definitions and laws only.
