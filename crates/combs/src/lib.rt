@@ -44,14 +44,14 @@ fn comb_loop(c: Comb2, first: f32, second: f32, x: f32) -> f32
     c.feedback * (lane::soft_clip(taps * c.inv_knee) * c.knee) + x
 }
 
-// Reads two taps of the slot's ring and writes the cursor's cell.
+// Reads two taps of the slot's ring and writes the cursor's cell, through the view.
 pub fn comb_step(c: Comb2, delay: &mut [f32], len: usize, cursor: usize, slot: usize, x: f32) -> f32
     requires { ⌜ isView len slot (length (now delay)) ≡ true ⌝ }
     ensures { λ r. ⌜ (r ≡ combStep c len cursor (piece len slot (now (delay .entry))) x .out) × (now (delay .exit) ≡ patch len slot (combStep c len cursor (piece len slot (now (delay .entry))) x .ring) (now (delay .entry))) ⌝ }
 {
-    let first = lines::read_lent(delay, len, cursor, slot, c.first);
-    let second = lines::read_lent(delay, len, cursor, slot, c.second);
+    let first = view::read_through(delay, len, cursor, slot, c.first);
+    let second = view::read_through(delay, len, cursor, slot, c.second);
     let y = comb_loop(c, first, second, x);
-    lines::write_at(delay, len, cursor, slot, y);
+    view::write_through(delay, len, cursor, slot, y);
     y * (1.0 - c.feedback)
 }

@@ -141,6 +141,10 @@ lag-length code smooth character state at = go (smoothMark code) _
 
 -- ---- the tick
 
+pub smooth-length : (alpha : Float) (targets params : List Float) → length (smoothOf alpha targets params) ≡ 10
+unfolding smoothOf
+smooth-length alpha targets params = refl
+
 module _ (code : ℕ) (k : Constants) (sections : List Float) (active : ℕ) (gain : Float) (len cursor : ℕ) (params state : List Float) (at : Place) (input : Float) (ring : List Float) where
   kernel-tick-kept : (length (kernelTick code k sections active gain len cursor params state at input ring .state) ≡ length state)
       × (length (kernelTick code k sections active gain len cursor params state at input ring .ring) ≡ length ring)
@@ -157,13 +161,9 @@ module _ (code : ℕ) (k : Constants) (sections : List Float) (active : ℕ) (ga
       × (length (kernelTick code k sections active gain len cursor params (drop 10 rec) (placed params sign pitch st) input ring .ring) ≡ length ring)
   kept = kernel-tick-kept code k sections active gain len cursor params (drop 10 rec) (placed params sign pitch st) input ring
 
-  params-length : length params ≡ 10
-  unfolding smoothOf
-  params-length = refl
-
   pub rec-length : length rec ≡ 30 → length (tickWith code k sections active gain len sign targets cursor pitch input st rec ring .rec) ≡ 30
   unfolding tickWith
-  rec-length h = length-append params _ ∙ omega (arith, params-length, kept .0, length-drop 10 rec)
+  rec-length h = length-append params _ ∙ omega (arith, smooth-length (k .alpha) targets (take 10 rec), kept .0, length-drop 10 rec)
 
   pub ring-length : length ring ≡ len → length (tickWith code k sections active gain len sign targets cursor pitch input st rec ring .ring) ≡ len
   unfolding tickWith

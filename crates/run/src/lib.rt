@@ -237,7 +237,7 @@ pub fn tick(
     y: f32,
 ) -> f32
     requires { ⌜ (length (now params) ≡ 10) × (isView len slot (length (now delay)) ≡ true) ⌝ }
-    ensures { λ r. ⌜ TickLeaves len slot (now (delay .entry)) (tickWith code k (now (sections .entry)) active gain len sign (now (targets .entry)) cursor (pitch .0) input (steeringOf steered x y) (now (params .entry) ++ now (state .entry)) (piece len slot (now (delay .entry)))) r (now (params .exit) ++ now (state .exit)) (now (delay .exit)) ⌝ }
+    ensures { λ r. ⌜ (TickLeaves len slot (now (delay .entry)) (tickWith code k (now (sections .entry)) active gain len sign (now (targets .entry)) cursor (pitch .0) input (steeringOf steered x y) (now (params .entry) ++ now (state .entry)) (piece len slot (now (delay .entry)))) r (now (params .exit) ++ now (state .exit)) (now (delay .exit))) × (length (now (params .exit)) ≡ 10) ⌝ }
 {
     smooth(params, targets, k.alpha);
     let at = Place {

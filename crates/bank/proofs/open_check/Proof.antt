@@ -1,0 +1,41 @@
+-- `bank::open_check` meets its contract: at each return the tests before it passed, and this one did not. The products are small, as
+-- the setup was accepted.
+use mathlib.Core.Path.{sym}
+use Prim.Native.Nat.{_*_, _≤_}
+use native.Mathlib.Omega.{arith}
+use borrow.Author.Tests.{eq-eqb, ne-eqb}
+use borrow.Author.Needs.{needs}
+use Rattle.voices.specs.Calls.{check, _then_}
+use Rattle.bank.specs.Setup.{soloOf}
+use Rattle.bank.specs.Bank.{checkOf}
+use Rattle.bank.proofs.Checks.{SetupAccepted, setup-accepted, refused-by, fine-by, after-refused}
+use Rattle.bank.proofs.open_check.Statement.{statement}
+use Rattle.bank.proofs.open_check.Tie as tie
+
+known : (c : tie.After-enum-told) → SetupAccepted (soloOf (c .before .before .before .before .before .before .args .setup)) (c .before .before .before .before .before .before .args .setup .voices)
+known c = setup-accepted _ _ (fine-by (c .before .before .setup-check .ensures) (c .enum-told .given .1))
+
+mul-if3 : tie.Need-mul-if3
+mul-if3 c =
+    let a = c .before .before .before .before .before .before .before .before .before .before .before .args in
+    let h : a .setup .channels * a .setup .voices * c .ring-len .result ≤ 2097152 = rw (c .ring-len .ensures) (known (c .before .before .before .before .before) .rings) in
+    omega arith
+
+pub open-check-spec : {M : Type 1} → statement M
+unfolding checkOf check _then_
+open-check-spec =
+    tie.close
+    (tie.spec
+    (λ c κs. tt)
+    (λ c. search needs)
+    (λ c. sym (after-refused _ _ (refused-by (c .before .before .before .setup-check .ensures) (c .before .first .given .1))))
+    (λ c. search needs)
+    (λ c. omega (arith, known (c .before) .slots))
+    (λ c. omega (arith, known (c .before .before) .voices))
+    (λ c. rw (fine-by (c .before .before .before .before .before .setup-check .ensures) (c .before .before .before .enum-told .given .1), ne-eqb _ _ (c .if1 .taken)))
+    (λ c. omega (arith, known (c .before .before .before) .slots))
+    (λ c. rw (fine-by (c .before .before .before .before .before .before .setup-check .ensures) (c .before .before .before .before .enum-told .given .1), eq-eqb _ _ (c .before .if1 .left), ne-eqb _ _ (c .if2 .taken)))
+    (λ c κs. tt)
+    mul-if3
+    (λ c. rw (fine-by (c .before .before .before .before .before .before .before .before .setup-check .ensures) (c .before .before .before .before .before .before .enum-told .given .1), eq-eqb _ _ (c .before .before .before .if1 .left), eq-eqb _ _ (c .before .before .if2 .left), ← c .before .ring-len .ensures, ne-eqb _ _ (c .if3 .taken)))
+    (λ c. rw (fine-by (c .before .before .before .before .before .before .before .before .setup-check .ensures) (c .before .before .before .before .before .before .enum-told .given .1), eq-eqb _ _ (c .before .before .before .if1 .left), eq-eqb _ _ (c .before .before .if2 .left), ← c .before .ring-len .ensures, eq-eqb _ _ (c .if3 .left))))

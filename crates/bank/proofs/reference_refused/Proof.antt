@@ -1,0 +1,15 @@
+-- `bank::reference_refused` meets its contract: by the three tests, where `x != x` is the test for a NaN.
+use lib.Ieee.{ofBits, round}
+use Rattle.bits.specs.Nan.{nan-is}
+use Rattle.slots.specs.Engine.{referenceRefused}
+use Rattle.bank.proofs.reference_refused.Statement.{statement}
+use Rattle.bank.proofs.reference_refused.Tie as tie
+
+pub reference-refused-spec : {M : Type 1} → statement M
+unfolding referenceRefused ofBits round
+reference-refused-spec =
+    tie.close
+    (tie.spec
+    (λ c. simp (nan-is, c .if1 .taken))
+    (λ c. simp (nan-is, c .before .if1 .left, c .if2 .taken))
+    (λ c. simp (nan-is, c .before .if1 .left, c .if2 .left)))

@@ -1,0 +1,57 @@
+-- The statements of Demand3 speak of something: a setup whose open is accepted, a list of calls with a refused one in it, and a
+-- feed that computes to what one expects. By computation; no tick is opened. Assumes nothing.
+use mathlib.Core.Path.{_≡_, refl}
+use Prim.Native.Nat.{ℕ, _*_}
+use mathlib.Core.Bool.{true, false}
+use mathlib.Core.Option.{some}
+use mathlib.Core.List.{List, [], _∷_}
+use lib.Ieee.{Float, nan, binary32, ofBits, isNan, lt, round, size, mul, toUnsigned}
+use lib.ListN.{replicate}
+use Rattle.lane.specs.Floats.{whole}
+use Rattle.lines.specs.Lines.{rateRefused, nextPower, ringLen}
+use Rattle.filter.specs.declared.VoiceParams.{VoiceParams}
+use Rattle.filter.specs.Voice.{defaultParams, targetsOf, morphTargetsOf, voiceTargets, nanKnob}
+use Rattle.pole_zero.specs.declared.Table.{Table}
+use Rattle.parts.specs.Parts.{tab, piece, patch}
+use Rattle.slots.specs.Engine.{referenceRefused, setupCheckOf}
+use Rattle.voices.specs.Calls.{targetsWidth, recordWidth, fine, refused, check, _then_, Bank, Block, Call, callSet, callStart, callBlock, setOf, startSlot, startOf, openOf, openVerdict, verdict, opened}
+use Rattle.voices.specs.Feed.{Frame, eventSet, eventStart, eventFrame, feed}
+use Rattle.bank.specs.declared.Setup.{Setup}
+use Rattle.bank.specs.Setup.{engine}
+
+-- two mono voices of DjSweep at a rate of 8,000, with any table
+setup : Table → Setup
+setup t = record { code = 2; rate = whole 8000; reference = whole 440; voices = 2; channels = 1; clean = false; table = t }
+
+-- lists for them, with any content
+lists : Bank
+lists = record { targets = replicate (2 * targetsWidth) nan; records = replicate (2 * recordWidth) nan; delay = replicate (2 * 1024) nan; cursor = 7 }
+
+open-is-accepted : (t : Table) → openVerdict (engine (setup t)) 2 lists ≡ fine
+unfolding setup lists setupCheckOf referenceRefused rateRefused ringLen nextPower check _then_ isNan lt round size mul toUnsigned
+open-is-accepted t = refl
+
+-- the float of each bit pattern, to tell numbers apart
+abbrev number : ℕ → Float
+number k = ofBits binary32 k
+
+block : Block
+block = record { frames = 2; pitch = tab number 4; steered = true; x = tab number 4; y = replicate 4 nan; audio = tab number 4 }
+
+calls : List (Call VoiceParams)
+calls = callStart 2 ∷ callSet 0 defaultParams ∷ callSet 1 defaultParams ∷ callStart 1 ∷ callBlock block ∷ []
+
+voice-is-refused : (t : Table) → verdict (engine (setup t)) 2 (callStart 2) lists ≡ refused 7
+unfolding setup lists setupCheckOf referenceRefused rateRefused ringLen nextPower check _then_ isNan lt round size mul toUnsigned
+voice-is-refused t = refl
+
+frame0 : Frame
+frame0 = record { pitch = number 1; inputs = number 1 ∷ []; steering = some (number 1, nan) }
+
+frame1 : Frame
+frame1 = record { pitch = number 3; inputs = number 3 ∷ []; steering = some (number 3, nan) }
+
+-- the refused start and the other voice's set add nothing
+feed-computes : (t : Table) → feed (engine (setup t)) 2 1 calls (opened (engine (setup t)) 2 lists) ≡ eventSet defaultParams ∷ eventStart ∷ eventFrame frame0 ∷ eventFrame frame1 ∷ []
+unfolding setup lists setupCheckOf referenceRefused rateRefused ringLen nextPower check _then_ isNan lt round size mul toUnsigned block calls frame0 frame1 openOf startOf startSlot setOf piece patch nanKnob defaultParams voiceTargets targetsOf morphTargetsOf
+feed-computes t = refl

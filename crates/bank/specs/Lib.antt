@@ -1,0 +1,4 @@
+pub mod Setup
+pub mod Bank
+pub mod Demand3
+pub mod Example

@@ -1,0 +1,58 @@
+-- `frame` meets its contract: the places are those of the definitions, the view is good, and the tick is the definitions' tick.
+use mathlib.Core.Path.{ap, _∙_}
+use Prim.Native.Nat.{ℕ}
+use native.Mathlib.Omega.{arith}
+use denote.Ref.{now}
+use lib.Ieee.{nan}
+use lib.ListN.{getD, length-set}
+use Rattle.parts.specs.Parts.{piece-fits}
+use Rattle.lines.specs.Laws.{view-good}
+use Rattle.voices.specs.Calls.{cursorAfter}
+use Rattle.slots.specs.Slots.{blockAt, slotRun}
+use Rattle.slots.specs.Frame.{frame-is, steering-is}
+use Rattle.slots.proofs.frame.Statement.{statement}
+use Rattle.slots.proofs.frame.Tie as tie
+
+tick-requires : tie.Need-tick-requires
+tick-requires c κs =
+    let s = c .before .before .before .before .before .before .before .before .before .before .before .before .before .before .before .before in
+    let e = s .args .e in
+    (s .pre .4, view-good (e .len) (s .args .p .slot) _ (s .pre .0 .good) (omega (arith, s .pre .2 .delay, piece-fits (e .len) (s .args .p .slot) (e .slots) (s .pre .1 .below))))
+
+returns : tie.Need-returns
+unfolding cursorAfter
+returns c =
+    let s = c .before .before .before .before .before .before .before .before .before .before .before .before .before .before .before .before .before .before .before in
+    let a = s .args in
+    let at = c .before .before .before .before .before .before .before .before .before .before .before .before .before .place-at in
+    let from = c .before .before .before .before .before .before .before .before .before .before .before .before .place-at2 in (
+      frame-is (a .e) (now (a .sections)) (blockAt (a .e) (now (a .pitch)) (now (a .x)) (now (a .y))) (now (a .targets)) (a .p) (a .f)
+          (slotRun (now (a .params)) (now (a .state)) (now (a .delay)) (now (a .audio))) (s .pre .0) (s .pre .1)
+          (at .result) (from .result) (c .before .before .before .before .before .before .before .before .before .before .before .cursor-after .result) _ _ _ _
+          (at .ensures .0) (from .ensures .0) (c .before .before .before .before .before .before .before .before .before .before .before .cursor-after .ensures)
+          (steering-is (a .e .steered) _ _ _ _
+          (λ m. c .before .before .before .before .before .before .before .before .before .before .steering-at .ensures m ∙ ap (λ (i : ℕ). getD (now (a .x)) i nan) (from .ensures .0))
+          (λ m. c .before .before .before .before .before .before .before .before .before .steering-at2 .ensures m ∙ ap (λ (i : ℕ). getD (now (a .y)) i nan) (from .ensures .0)))
+          (c .before .before .tick .ensures .0),
+      c .before .before .tick .ensures .1,
+    )
+
+pub frame-spec : {M : Type 1} → statement M
+frame-spec =
+    tie.close
+    (tie.spec
+    (λ c κs. let s = c .before .before .before .before .before in (s .pre .3, s .pre .1 .below, s .pre .2 .audio))
+    (λ c κs. let s = c .before .before .before .before .before .before in (s .pre .3, s .pre .1 .voice, s .pre .2 .pitch))
+    (λ c κs. tt)
+    (λ c κs e. let s = c .before .before .before .before .before .before .before .before in omega (arith, c .before .place-at2 .ensures .1, s .pre .2 .pitch, s .pre .2 .x e))
+    (λ c κs e. let s = c .before .before .before .before .before .before .before .before .before in omega (arith, c .before .before .place-at2 .ensures .1, s .pre .2 .pitch, s .pre .2 .y e))
+    (λ c. omega (arith, c .before .before .before .place-at2 .ensures .1, c .before .before .before .before .before .before .before .before .before .before .good .1 .1 .1 .1 .1 .1 .1 .0))
+    (λ c. omega (arith, c .before .before .before .before .place-at2 .ensures .1))
+    (λ c. omega (arith, c .before .before .before .before .before .place-at .ensures .1, c .before .before .before .before .before .before .before .before .before .before .before .good .1 .1 .1 .1 .1 .1 .1 .1 .1 .1 .0))
+    (λ c. omega (arith, c .before .before .before .before .before .before .place-at .ensures .1))
+    tick-requires
+    (λ c. omega (arith, c .before .before .before .before .before .before .before .before .before .before .before .before .before .place-at .ensures .1, c .before .before .before .before .before .before .before .before .before .before .before .before .before .before .before .before .before .before .before .good .1 .1 .1 .1 .1 .1 .1 .1 .1 .1 .0))
+    (λ c. omega (arith, c .before .before .before .before .before .before .before .before .before .before .before .before .before .place-at .ensures .1, c .before .before .before .before .before .before .before .before .before .before .before .before .before .before .before .before .before .before .before .good .1 .1 .1 .1 .1 .1 .1 .1 .1 .1 .0))
+    (λ c. omega arith)
+    (λ c. simp length-set)
+    returns)

@@ -1,0 +1,83 @@
+-- What the code of a block holds, read as the definitions' setup, block and lists. Definitions only.
+use mathlib.Core.Path.{_≡_}
+use Prim.Native.Nat.{ℕ, _+_, _*_, _≤_, _<_}
+use mathlib.Core.Bool.{true}
+use mathlib.Core.List.{List, [], _++_}
+use lib.Ieee.{Float}
+use lib.ListN.{length}
+use Rattle.parts.specs.Parts.{upto, piece}
+use Rattle.lines.specs.Lines.{ringLen, isLength}
+use Rattle.run.specs.Run.{constantsOf, signOf}
+use Rattle.voices.specs.Calls.{targetsWidth, recordWidth, mostFrames, Engine, Bank, Block, BlockRun, SlotRun, slotOf}
+use Rattle.slots.specs.declared.Prepared.{Prepared}
+use Rattle.slots.specs.declared.Place.{Place}
+use Rattle.slots.specs.Engine.{SoloSetup, engineOf}
+
+-- the setup without its voices, of a block's numbers and its table's sections
+abbrev pub soloAt : Prepared → (sections : List Float) → SoloSetup
+soloAt e sections = record {
+  code = e .code;
+  rate = e .rate;
+  reference = e .reference;
+  channels = e .channels;
+  clean = e .clean;
+  table = record { active = e .active; sections = sections; gain = e .gain };
+}
+
+abbrev pub engineAt : Prepared → (sections : List Float) → Engine
+engineAt e sections = engineOf (soloAt e sections)
+
+abbrev pub blockOn : Prepared → (pitch x y audio : List Float) → Block
+blockOn e pitch x y audio = record { frames = e .frames; pitch = pitch; steered = e .steered; x = x; y = y; audio = audio }
+
+-- the block without its audio, which stands in the lists that it writes
+abbrev pub blockAt : Prepared → (pitch x y : List Float) → Block
+blockAt e pitch x y = blockOn e pitch x y []
+
+abbrev pub bankAt : Prepared → (targets records delay : List Float) → Bank
+bankAt e tg rs ds = record { targets = tg; records = rs; delay = ds; cursor = e .cursor }
+
+abbrev pub blockRun : (records delay audio : List Float) → BlockRun
+blockRun rs ds a = record { records = rs; delay = ds; audio = a }
+
+-- a slot's record in hand, as its ten smoothed and morph numbers and its twenty states
+abbrev pub slotRun : (params state delay audio : List Float) → SlotRun
+slotRun params state ds a = record { rec = params ++ state; delay = ds; audio = a }
+
+-- what was worked out once, of numbers that were accepted
+pub record Worked (e : Prepared) : Type 0 where
+  pub voices : e .voices ≤ 16
+  pub channels : e .channels ≤ 2
+  pub frames : e .frames ≤ mostFrames
+  pub slots : e .slots ≡ e .channels * e .voices
+  pub len : e .len ≡ ringLen (e .rate)
+  pub good : isLength (e .len) ≡ true
+  pub constants : e .k ≡ constantsOf (e .rate) (e .reference) (e .clean)
+
+-- a slot's number and sign
+pub record Placed (e : Prepared) (p : Place) : Type 0 where
+  pub channel : p .channel < e .channels
+  pub voice : p .voice < e .voices
+  pub slot : p .slot ≡ p .channel * e .voices + p .voice
+  pub below : p .slot < e .slots
+  pub sign : p .sign ≡ signOf (e .channels) (p .channel)
+
+-- the lists of a block are as long as they should be
+pub record Buffers (e : Prepared) (ps xs ys ds au : List Float) : Type 0 where
+  pub pitch : length ps ≡ e .frames * e .voices
+  pub x : e .steered ≡ true → length xs ≡ e .frames * e .voices
+  pub y : e .steered ≡ true → length ys ≡ e .frames * e .voices
+  pub delay : length ds ≡ e .slots * e .len
+  pub audio : length au ≡ e .frames * e .slots
+
+pub record Lists (e : Prepared) (tg rs : List Float) : Type 0 where
+  pub targets : length tg ≡ e .voices * targetsWidth
+  pub records : length rs ≡ e .slots * recordWidth
+
+-- the first n voices of a channel, and the first m channels
+unfoldable pub channelAt : Prepared → (sections targets pitch x y : List Float) (channel n : ℕ) → BlockRun → BlockRun
+channelAt e sections tg pitch x y c n w = upto (λ v. slotOf (engineAt e sections) (e .voices) (blockAt e pitch x y) (piece targetsWidth v tg) (e .cursor) c v) n w
+
+unfoldable pub channelsAt : Prepared → (sections targets pitch x y : List Float) (m : ℕ) → BlockRun → BlockRun
+unfolding channelAt
+channelsAt e sections tg pitch x y m w = upto (λ c. channelAt e sections tg pitch x y c (e .voices)) m w
