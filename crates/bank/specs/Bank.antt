@@ -7,7 +7,7 @@ use lib.Ieee.{Float}
 use Rattle.filter.specs.declared.VoiceParams.{VoiceParams}
 use Rattle.voices.specs.Calls.{Check, fine, refused, Bank, Block, callSet, callStart, callBlock, Answer, refusedCall, kept, rendered, Run, openOf, openVerdict, call}
 use Rattle.bank.specs.declared.Setup.{Setup}
-use Rattle.bank.specs.declared.Answer.{Answer as Given}
+use Rattle.bank.specs.declared.Answer.{Answer as CodeAnswer}
 use Rattle.bank.specs.declared.Answer.the-variants.{Refused, Kept, Rendered}
 use Rattle.bank.specs.declared.Verdict.{Verdict}
 use Rattle.bank.specs.declared.Verdict.the-variants.{Fine, Refused as Refusal}
@@ -16,13 +16,13 @@ use Rattle.bank.specs.Setup.{engine}
 -- ---- answers: document 01's number and values for each case
 
 -- a refusal's number; the cursor kept; the new cursor and the frames rendered, with the audio that the call left
-unfoldable pub answerOf : Given → (audio : List Float) → Answer
+unfoldable pub answerOf : CodeAnswer → (audio : List Float) → Answer
 answerOf (Refused k) audio = refusedCall k
 answerOf (Kept cursor) audio = kept cursor
 answerOf (Rendered cursor frames) audio = rendered cursor frames audio
 
 -- the cursor that the next call is given: a refusal keeps the caller's
-unfoldable pub cursorOf : Given → (cursor : ℕ) → ℕ
+unfoldable pub cursorOf : CodeAnswer → (cursor : ℕ) → ℕ
 cursorOf (Refused k) given = given
 cursorOf (Kept cursor) given = cursor
 cursorOf (Rendered cursor frames) given = cursor
@@ -45,20 +45,20 @@ abbrev pub before : Bank → Run
 before b = record { bank = b; log = [] }
 
 -- the run that a call's answer and the lists it left make
-abbrev pub after : Given → (cursor : ℕ) (targets records delay audio : List Float) → Run
+abbrev pub after : CodeAnswer → (cursor : ℕ) (targets records delay audio : List Float) → Run
 after r cur tg rs ds audio = record { bank = bankOf tg rs ds (cursorOf r cur); log = answerOf r audio ∷ [] }
 
 -- ---- what each call promises
 
 -- set takes targets alone: whatever records and delay are, it does `call` with those targets and keeps them
-abbrev pub SetDoes : Setup → (cursor : ℕ) → (voice : ℕ) → VoiceParams → (targets : List Float) → Given → (left : List Float) → Type 0
+abbrev pub SetDoes : Setup → (cursor : ℕ) → (voice : ℕ) → VoiceParams → (targets : List Float) → CodeAnswer → (left : List Float) → Type 0
 SetDoes s cur v p tg r tg' = (rs ds : List Float) → after r cur tg' rs ds [] ≡ call (engine s) (s .voices) (callSet v p) (before (bankOf tg rs ds cur))
 
-abbrev pub StartDoes : Setup → (cursor : ℕ) → (voice : ℕ) → (targets records delay : List Float) → Given → (records' delay' : List Float) → Type 0
+abbrev pub StartDoes : Setup → (cursor : ℕ) → (voice : ℕ) → (targets records delay : List Float) → CodeAnswer → (records' delay' : List Float) → Type 0
 StartDoes s cur v tg rs ds r rs' ds' = after r cur tg rs' ds' [] ≡ call (engine s) (s .voices) (callStart v) (before (bankOf tg rs ds cur))
 
 -- a refused block leaves the audio too
-pub record BlockDoes (s : Setup) (q : Block) (b : Bank) (r : Given) (rs ds audio : List Float) : Type 0 where
+pub record BlockDoes (s : Setup) (q : Block) (b : Bank) (r : CodeAnswer) (rs ds audio : List Float) : Type 0 where
   pub does : after r (b .cursor) (b .targets) rs ds audio ≡ call (engine s) (s .voices) (callBlock q) (before b)
   pub keeps : (k : ℕ) → r ≡ Refused k → audio ≡ q .audio
 
@@ -67,6 +67,6 @@ abbrev pub openBy : Check → Setup → Bank → Run
 openBy fine s b = record { bank = openOf (engine s) (s .voices) b; log = kept 0 ∷ [] }
 openBy (refused k) s b = record { bank = b; log = refusedCall k ∷ [] }
 
-pub record OpenDoes (s : Setup) (b : Bank) (r : Given) (s' : Setup) (tg rs ds : List Float) : Type 0 where
+pub record OpenDoes (s : Setup) (b : Bank) (r : CodeAnswer) (s' : Setup) (tg rs ds : List Float) : Type 0 where
   pub does : after r (b .cursor) tg rs ds [] ≡ openBy (openVerdict (engine s) (s .voices) b) s b
   pub setup : s' ≡ s

@@ -1,0 +1,89 @@
+//! ns a voice-sample (voice x channel x frame) of the proved library and of the Rust's scalar lane, in one run, best of several.
+//! Built inside the assembled oracle, so that the Rust's private `extended::dispatch` is in reach.
+use super::*;
+use std::time::Instant;
+
+unsafe extern "C" {
+    fn sentivolus_block(code: u32, rate: f32, reference: f32, voices: usize, channels: usize, clean: bool,
+        active: u32, sections: *const f32, gain: f32, cursor: *mut usize, targets: *const f32, targets_len: usize,
+        records: *mut f32, records_len: usize, delay: *mut f32, delay_len: usize, frames: usize, pitch: *const f32, pitch_len: usize,
+        steered: bool, x: *const f32, x_len: usize, y: *const f32, y_len: usize, audio: *mut f32, audio_len: usize, rendered: *mut usize) -> u32;
+}
+
+struct Case { engine: Engine, frames: usize, pitch: Vec<f32>, audio: Vec<f32> }
+
+fn case(code: u32, rate: f32, voices: usize, channels: usize, frames: usize, moving: bool) -> Case {
+    let s = Setup { code, rate: rate.to_bits(), reference: 440f32.to_bits(), voices: voices as u64, channels: channels as u64, clean: false };
+    let mut e = Engine::new();
+    let mut r = generate::Rng::new(5);
+    if code == 8 {
+        let mut d = PoleZeroDesign::default();
+        for st in 0..4 { for p in 0..8 { d.states[st].points[p] = Point::bell(60.0 * (p + 1 + st) as f32 * 3.0, 1.0 + p as f32, 3.0); } }
+        e.table = Table::of(&d);
+    }
+    e.open(s, s.needs());
+    for k in 0..voices as u64 { e.set(k, &[0.7f32, 0.4, 0.3, 0.35, 2.0, 0.9, 1.0, 0.3, 0.6].map(f32::to_bits)); e.start(k); }
+    let held: Vec<f32> = (0..voices).map(|_| r.range(50.0, 90.0)).collect();
+    let pitch = (0..frames * voices).map(|i| if moving { r.range(50.0, 90.0) } else { held[i % voices] }).collect();
+    let audio = (0..frames * voices * channels).map(|_| r.range(-0.5, 0.5)).collect();
+    Case { engine: e, frames, pitch, audio }
+}
+
+/// Best of several runs, the two taking turns.
+fn measure(c: &Case, millis: u128) -> (f64, f64) {
+    let s = c.engine.setup;
+    let (v, n) = (s.voices as usize, s.channels as usize);
+    let per = c.frames * v * n;
+    let reps = (16_000 / per).max(1);
+    let mut rust = c.engine.clone();
+    let mut bank = rust.bank();
+    let mut ours = c.engine.clone();
+    let sections: Vec<f32> = ours.table.sections.iter().flatten().flatten().copied().collect();
+    let mut audio = c.audio.clone();
+    let mut best = (f64::MAX, f64::MAX);
+    let begun = Instant::now();
+    while begun.elapsed().as_millis() < millis {
+        let t = Instant::now();
+        for _ in 0..reps { audio.copy_from_slice(&c.audio); extended::dispatch(&mut bank, None, &c.pitch, None, &mut audio, c.frames); }
+        best.1 = best.1.min(t.elapsed().as_nanos() as f64 / (reps * per) as f64);
+        let t = Instant::now();
+        for _ in 0..reps {
+            audio.copy_from_slice(&c.audio);
+            let mut done = 0usize;
+            let refused = unsafe {
+                sentivolus_block(s.code, f(s.rate), f(s.reference), v, n, false, ours.table.active as u32, sections.as_ptr(), ours.table.gain,
+                    &mut ours.cursor, ours.t.as_ptr(), ours.t.len(), ours.r.as_mut_ptr(), ours.r.len(), ours.d.as_mut_ptr(), ours.d.len(),
+                    c.frames, c.pitch.as_ptr(), c.pitch.len(), false, std::ptr::NonNull::dangling().as_ptr(), 0, std::ptr::NonNull::dangling().as_ptr(), 0,
+                    audio.as_mut_ptr(), audio.len(), &mut done)
+            };
+            assert_eq!((refused, done), (0, c.frames));
+        }
+        best.0 = best.0.min(t.elapsed().as_nanos() as f64 / (reps * per) as f64);
+    }
+    assert!(audio.iter().all(|x| x.is_finite()));
+    best
+}
+
+pub fn main() {
+    let millis = std::env::var("MILLIS").ok().and_then(|m| m.parse().ok()).unwrap_or(300);
+    println!("| code | pitch | voices x channels / frames: ours, Rust (ratio) | | | |");
+    println!("|---|---|---|---|---|---|");
+    println!("| | | 1x1/64 | 1x1/4096 | 16x2/64 | 16x2/4096 |");
+    for code in 1..=12u32 {
+        for moving in [false, true] {
+            let mut row = format!("| {code} {:?} | {}", KINDS[code as usize - 1], if moving { "moving" } else { "held" });
+            for (v, n) in [(1, 1), (16, 2)] {
+                for frames in [64, 4096] {
+                    let (a, b) = measure(&case(code, 48000.0, v, n, frames, moving), millis);
+                    row += &format!(" | {a:.1}, {b:.1} ({:.2})", a / b);
+                }
+            }
+            println!("{row} |");
+        }
+    }
+    println!("\nGrowth, ours, code 9 (Comb2), held pitch, ns a voice-sample:");
+    for (what, v, n, frames, rate) in [("1 voice mono, 64 frames", 1, 1, 64, 48000.0), ("4 voices", 4, 1, 64, 48000.0), ("16 voices stereo", 16, 2, 64, 48000.0),
+        ("1 frame", 1, 1, 1, 48000.0), ("16 frames", 1, 1, 16, 48000.0), ("4,096 frames", 1, 1, 4096, 48000.0), ("rate 8,000", 1, 1, 64, 8000.0), ("rate 384,000", 1, 1, 64, 384000.0)] {
+        println!("- {what}: {:.1}", measure(&case(9, rate, v, n, frames, false), millis).0);
+    }
+}

@@ -1,0 +1,70 @@
+-- What the exported calls of the bank answer and leave: numbers in place of the answers of voices/specs/Calls.
+-- Definitions only. Assumes nothing.
+use mathlib.Core.Path.{_≡_}
+use Prim.Native.Nat.{ℕ}
+use mathlib.Core.Bool.{Bool}
+use mathlib.Core.List.{List, [], _∷_}
+use lib.Ieee.{Float}
+use Rattle.voices.specs.Calls.{Answer, refusedCall, kept, rendered, Run}
+use Rattle.bank.specs.declared.Setup.{Setup}
+use Rattle.bank.specs.declared.Answer.{Answer as CodeAnswer}
+use Rattle.bank.specs.declared.Answer.the-variants.{Refused, Kept, Rendered}
+
+-- a setup from the numbers that a caller in C hands over
+abbrev pub setupOf : (code : ℕ) (rate reference : Float) (voices channels : ℕ) (clean : Bool) (active : ℕ) (sections : List Float) (gain : Float) → Setup
+setupOf code rate reference voices channels clean active sections gain =
+    record {
+      code = code;
+      rate = rate;
+      reference = reference;
+      voices = voices;
+      channels = channels;
+      clean = clean;
+      table = record { active = active; sections = sections; gain = gain };
+    }
+
+-- the answer's number: a refusal's, or 0
+unfoldable pub numberOf : CodeAnswer → ℕ
+numberOf (Refused k) = k
+numberOf (Kept cursor) = 0
+numberOf (Rendered cursor frames) = 0
+
+-- the frames rendered, or the number that stood there
+unfoldable pub framesOr : CodeAnswer → ℕ → ℕ
+framesOr (Refused k) before = before
+framesOr (Kept cursor) before = before
+framesOr (Rendered cursor frames) before = frames
+
+-- the same of the newest answer of a run
+abbrev pub numberIn : List Answer → ℕ
+numberIn [] = 0
+numberIn (refusedCall k ∷ l) = k
+numberIn (kept cursor ∷ l) = 0
+numberIn (rendered cursor frames audio ∷ l) = 0
+
+abbrev pub framesIn : List Answer → ℕ → ℕ
+framesIn [] before = before
+framesIn (refusedCall k ∷ l) before = before
+framesIn (kept cursor ∷ l) before = before
+framesIn (rendered cursor frames audio ∷ l) before = frames
+
+-- the audio that a block leaves: the rendered one, or as it was
+abbrev pub audioIn : List Answer → List Float → List Float
+audioIn [] before = before
+audioIn (refusedCall k ∷ l) before = before
+audioIn (kept cursor ∷ l) before = before
+audioIn (rendered cursor frames audio ∷ l) before = audio
+
+-- ---- what each exported call promises, of the run that the definitions' call makes
+
+pub record ListsLeft (R : Run) (number : ℕ) (targets records delay : List Float) : Type 0 where
+  pub answer : number ≡ numberIn (R .log)
+  pub targets' : targets ≡ R .bank .targets
+  pub records' : records ≡ R .bank .records
+  pub delay' : delay ≡ R .bank .delay
+
+pub record BlockLeft (R : Run) (before : List Float) (given : ℕ) (number cursor frames : ℕ) (targets records delay audio : List Float) : Type 0 where
+  pub lists : ListsLeft R number targets records delay
+  pub cursor' : cursor ≡ R .bank .cursor
+  pub frames' : frames ≡ framesIn (R .log) given
+  pub audio' : audio ≡ audioIn (R .log) before

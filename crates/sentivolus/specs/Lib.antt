@@ -1,0 +1,2 @@
+pub mod Design
+pub mod Calls

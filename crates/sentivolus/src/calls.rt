@@ -1,0 +1,246 @@
+// The bank's calls. Each answers 0, or the number of a refusal, which changes no list and no number behind a pointer.
+ghost use mathlib.Core.Path.{_≡_};
+ghost use mathlib.Core.List.{[]};
+ghost use Rattle.voices.specs.Calls.{callSet, callStart, callBlock, call, openVerdict};
+ghost use Rattle.bank.specs.Setup.{engine};
+ghost use Rattle.bank.specs.Bank.{bankOf, blockFrom, before, cursorOf, openBy};
+ghost use Rattle.sentivolus.specs.Calls.{setupOf, numberOf, framesOr, numberIn, ListsLeft, BlockLeft};
+use bank::Answer;
+use bank::Setup;
+use filter::VoiceParams;
+use pole_zero::Table;
+
+fn setup_of(
+    code: u32,
+    rate: f32,
+    reference: f32,
+    voices: usize,
+    channels: usize,
+    clean: bool,
+    active: u32,
+    sections: &[f32; 160],
+    gain: f32,
+) -> Setup
+    ensures { λ r. ⌜ r ≡ setupOf code rate reference voices channels clean active (now (sections .entry)) gain ⌝ }
+{
+    let s = *sections;
+    let table = Table {
+        active: active,
+        sections: s,
+        gain: gain,
+    };
+    Setup {
+        code: code,
+        rate: rate,
+        reference: reference,
+        voices: voices,
+        channels: channels,
+        clean: clean,
+        table: table,
+    }
+}
+
+fn number_of(a: Answer) -> u32
+    ensures { λ r. ⌜ r ≡ numberOf a ⌝ }
+{
+    match a {
+        Answer::Refused(n) => n,
+        Answer::Kept(_) => 0,
+        Answer::Rendered(_, _) => 0,
+    }
+}
+
+fn cursor_of(a: Answer, cursor: usize) -> usize
+    ensures { λ r. ⌜ r ≡ cursorOf a cursor ⌝ }
+{
+    match a {
+        Answer::Refused(_) => cursor,
+        Answer::Kept(next) => next,
+        Answer::Rendered(next, _) => next,
+    }
+}
+
+fn frames_or(a: Answer, before: usize) -> usize
+    ensures { λ r. ⌜ r ≡ framesOr a before ⌝ }
+{
+    match a {
+        Answer::Refused(_) => before,
+        Answer::Kept(_) => before,
+        Answer::Rendered(_, frames) => frames,
+    }
+}
+
+// Every voice set to the defaults and started; the cursor is 0 afterwards.
+#[no_mangle]
+pub extern "C" fn sentivolus_open(
+    code: u32,
+    rate: f32,
+    reference: f32,
+    voices: usize,
+    channels: usize,
+    clean: bool,
+    active: u32,
+    sections: &[f32; 160],
+    gain: f32,
+    targets: &mut [f32],
+    records: &mut [f32],
+    delay: &mut [f32],
+) -> u32
+    ensures { λ r. ⌜ ListsLeft (openBy (openVerdict (engine (setupOf code rate reference voices channels clean active (now (sections .entry)) gain)) voices (bankOf (now (targets .entry)) (now (records .entry)) (now (delay .entry)) 0)) (setupOf code rate reference voices channels clean active (now (sections .entry)) gain) (bankOf (now (targets .entry)) (now (records .entry)) (now (delay .entry)) 0)) r (now (targets .exit)) (now (records .exit)) (now (delay .exit)) ⌝ }
+{
+    let s = setup_of(
+        code,
+        rate,
+        reference,
+        voices,
+        channels,
+        clean,
+        active,
+        sections,
+        gain,
+    );
+    let opened = bank::open(s, targets, records, delay);
+    let a = opened.answer;
+    number_of(a)
+}
+
+// Writes one voice's targets. The cursor stays.
+#[no_mangle]
+pub extern "C" fn sentivolus_set(
+    code: u32,
+    rate: f32,
+    reference: f32,
+    voices: usize,
+    channels: usize,
+    clean: bool,
+    active: u32,
+    sections: &[f32; 160],
+    gain: f32,
+    targets: &mut [f32],
+    voice: usize,
+    resonance: f32,
+    drive: f32,
+    saturation: f32,
+    character: f32,
+    stereo_offset: f32,
+    mix: f32,
+    level: f32,
+    morph_x: f32,
+    morph_y: f32,
+) -> u32
+    ensures { λ r. ⌜ ListsLeft (call (engine (setupOf code rate reference voices channels clean active (now (sections .entry)) gain)) voices (callSet voice record { resonance = resonance; drive = drive; saturation = saturation; character = character; «stereo_offset» = «stereo_offset»; mix = mix; level = level; «morph_x» = «morph_x»; «morph_y» = «morph_y» }) (before (bankOf (now (targets .entry)) [] [] 0))) r (now (targets .exit)) [] [] ⌝ }
+{
+    let s = setup_of(
+        code,
+        rate,
+        reference,
+        voices,
+        channels,
+        clean,
+        active,
+        sections,
+        gain,
+    );
+    let p = VoiceParams {
+        resonance: resonance,
+        drive: drive,
+        saturation: saturation,
+        character: character,
+        stereo_offset: stereo_offset,
+        mix: mix,
+        level: level,
+        morph_x: morph_x,
+        morph_y: morph_y,
+    };
+    number_of(bank::set(s, 0, targets, voice, p))
+}
+
+// Copies a voice's targets to its smoothed numbers on every channel and zeroes its states and rings. The cursor stays.
+#[no_mangle]
+pub extern "C" fn sentivolus_start(
+    code: u32,
+    rate: f32,
+    reference: f32,
+    voices: usize,
+    channels: usize,
+    clean: bool,
+    active: u32,
+    sections: &[f32; 160],
+    gain: f32,
+    targets: &[f32],
+    records: &mut [f32],
+    delay: &mut [f32],
+    voice: usize,
+) -> u32
+    ensures { λ r. ⌜ ListsLeft (call (engine (setupOf code rate reference voices channels clean active (now (sections .entry)) gain)) voices (callStart voice) (before (bankOf (now (targets .entry)) (now (records .entry)) (now (delay .entry)) 0))) r (now (targets .entry)) (now (records .exit)) (now (delay .exit)) ⌝ }
+{
+    let s = setup_of(
+        code,
+        rate,
+        reference,
+        voices,
+        channels,
+        clean,
+        active,
+        sections,
+        gain,
+    );
+    number_of(bank::start(s, 0, targets, records, delay, voice))
+}
+
+// Renders a block in place. `cursor` is the cursor, and the new one afterwards; `rendered` becomes the frames rendered.
+#[no_mangle]
+pub extern "C" fn sentivolus_block(
+    code: u32,
+    rate: f32,
+    reference: f32,
+    voices: usize,
+    channels: usize,
+    clean: bool,
+    active: u32,
+    sections: &[f32; 160],
+    gain: f32,
+    cursor: &mut usize,
+    targets: &[f32],
+    records: &mut [f32],
+    delay: &mut [f32],
+    frames: usize,
+    pitch: &[f32],
+    steered: bool,
+    x: &[f32],
+    y: &[f32],
+    audio: &mut [f32],
+    rendered: &mut usize,
+) -> u32
+    ensures { λ r. ⌜ BlockLeft (call (engine (setupOf code rate reference voices channels clean active (now (sections .entry)) gain)) voices (callBlock (blockFrom frames (now (pitch .entry)) steered (now (x .entry)) (now (y .entry)) (now (audio .entry)))) (before (bankOf (now (targets .entry)) (now (records .entry)) (now (delay .entry)) (now (cursor .entry))))) (now (audio .entry)) (now (rendered .entry)) r (now (cursor .exit)) (now (rendered .exit)) (now (targets .entry)) (now (records .exit)) (now (delay .exit)) (now (audio .exit)) ⌝ }
+{
+    let s = setup_of(
+        code,
+        rate,
+        reference,
+        voices,
+        channels,
+        clean,
+        active,
+        sections,
+        gain,
+    );
+    let from = *cursor;
+    let shown = *rendered;
+    let a = bank::block(
+        s,
+        from,
+        targets,
+        records,
+        delay,
+        frames,
+        pitch,
+        steered,
+        x,
+        y,
+        audio,
+    );
+    *cursor = cursor_of(a, from);
+    *rendered = frames_or(a, shown);
+    number_of(a)
+}
