@@ -320,7 +320,7 @@ pub fn block(
     }
     let table = setup.table;
     let sections = table.sections;
-    let roots = root::openings();
+    let roots = sqrt::openings();
     let prepared = Prepared {
         code: setup.code,
         rate: setup.rate,

@@ -7,7 +7,7 @@ use lib.Dec.{T, eqb}
 use lib.Ieee.{Float, binary32, nan, add, sub, mul, div, neg, lt, isNan, round, toBits, toUnsigned}
 use Rattle.lane.specs.Floats.{decimal, whole, zero, one, half}
 use Rattle.lane.specs.Lane.{maxOf, minOf, clampOf, softClip, exp2Of, tanOf}
-use Rattle.root.specs.Root.{rootOf}
+use Rattle.sqrt.specs.Root.{rootOf}
 use Rattle.log2.specs.Log2.{logOf}
 use Rattle.lines.specs.Lines.{hermiteOf, ringLen, held, wholePart, cellOf}
 

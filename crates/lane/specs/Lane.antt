@@ -3,7 +3,7 @@
 use mathlib.Core.Bool.{cond}
 use Prim.Native.Nat.{_^_}
 use lib.Ieee.{Float, neg, lt, isNan}
-use Rattle.root.specs.Root.{rootOf}
+use Rattle.sqrt.specs.Root.{rootOf}
 use Rattle.lane.specs.Floats.{_⊕_, _⊖_, _⊗_, _⊘_, fma, decimal, whole, zero, one, half}
 
 -- ---- stand-ins

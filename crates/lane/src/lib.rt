@@ -123,5 +123,5 @@ pub fn saturation_gain(x: f32, inv_a: f32, t: &[u8; 1024]) -> f32
     ensures { λ r. ⌜ r ≡ saturationGain x «inv_a» ⌝ }
 {
     let r = x * inv_a;
-    1.0 / root::root_in(r * r + 1.0, t)
+    1.0 / sqrt::root_in(r * r + 1.0, t)
 }

@@ -329,7 +329,7 @@ fn value_of(name: usize, x: [f32; 9], t: &[u8; 1024]) -> f32 {
         2 => lane::exp2(x[0]),
         3 => lane::tan(x[0]),
         4 => lane::soft_clip(x[0]),
-        5 => root::root_in(x[0], t),
+        5 => sqrt::root_in(x[0], t),
         6 => log2::log2(x[0]),
         7 => extended::asym(x[0]),
         8 => lane::saturation_gain(x[0], x[1], t),
@@ -566,7 +566,7 @@ fn main() {
     let n = io::read_full(0, &mut input);
     let mut cells = [0f32; 131072];
     fill(&mut cells);
-    let t = root::openings();
+    let t = sqrt::openings();
     let mut out = [0u8; 8192];
     replay(&input[..n], &cells, &t, &mut out);
 }

@@ -2,8 +2,8 @@
 ghost use mathlib.Core.Path.{_≡_};
 ghost use mathlib.Core.List.{List};
 ghost use Rattle.lane.specs.Lane.{maxOf, minOf, exp2Of, tanOf, softClip, saturationGain};
-ghost use Rattle.root.specs.Root.{rootOf};
-ghost use Rattle.root.specs.Openings.{openings};
+ghost use Rattle.sqrt.specs.Root.{rootOf};
+ghost use Rattle.sqrt.specs.Openings.{openings};
 ghost use Rattle.log2.specs.Log2.{logOf};
 ghost use Rattle.lines.specs.Lines.{hermiteOf, ringLen, readOf};
 ghost use Rattle.filter.specs.Filter.{ratioOf, gainOf, svfOf};
@@ -54,7 +54,7 @@ pub extern "C" fn sentivolus_soft_clip(x: f32) -> f32
 pub extern "C" fn sentivolus_openings(t: &mut [u8; 1024])
     ensures { λ _. ⌜ now (t .exit) ≡ openings ⌝ }
 {
-    let made = root::openings();
+    let made = sqrt::openings();
     *t = made;
 }
 
@@ -62,7 +62,7 @@ pub extern "C" fn sentivolus_openings(t: &mut [u8; 1024])
 pub extern "C" fn sentivolus_root(x: f32, t: &[u8; 1024]) -> f32
     ensures { λ r. ⌜ r ≡ rootOf x ⌝ }
 {
-    root::root_in(x, t)
+    sqrt::root_in(x, t)
 }
 
 #[no_mangle]

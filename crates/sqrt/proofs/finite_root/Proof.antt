@@ -4,11 +4,11 @@ use Prim.Native.Nat.{ℕ, _/_, _-_, _+_, _*_, _%_, _^_, _≤_, _<_}
 use native.Mathlib.Nat.{mod-eq-of-lt}
 use native.Mathlib.Omega.{arith}
 use Rattle.bits.specs.Patterns.{pack, plain}
-use Rattle.root.specs.Root.{NearestWhole}
-use Rattle.root.proofs.Isqrt.{Split, split, scaled-root}
+use Rattle.sqrt.specs.Root.{NearestWhole}
+use Rattle.sqrt.proofs.Isqrt.{Split, split, scaled-root}
 use borrow.Author.Needs.{needs}
-use Rattle.root.proofs.finite_root.Statement.{statement}
-use Rattle.root.proofs.finite_root.Tie as tie
+use Rattle.sqrt.proofs.finite_root.Statement.{statement}
+use Rattle.sqrt.proofs.finite_root.Tie as tie
 
 parts : (c : tie.Start) → Split (c .args .m) (c .args .e) (c .args .m * 2 ^ (23 + c .args .e % 2))
 parts c = split (c .args .m) (c .args .e) (search needs) (search needs) (search needs)

@@ -4,8 +4,8 @@ use native.Mathlib.Omega.{arith}
 use lib.Ieee.{binary64}
 use Rattle.bits.specs.Patterns.{not-nan, plain-in}
 use borrow.Author.Needs.{needs}
-use Rattle.root.proofs.guess.Statement.{statement}
-use Rattle.root.proofs.guess.Tie as tie
+use Rattle.sqrt.proofs.guess.Statement.{statement}
+use Rattle.sqrt.proofs.guess.Tie as tie
 
 element-copy-out-wide : tie.Need-element-copy-out-wide
 element-copy-out-wide c = search needs

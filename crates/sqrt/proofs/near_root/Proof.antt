@@ -2,9 +2,9 @@
 use Prim.Native.Nat.{_+_, _-_, _*_, _≤_, _<_}
 use native.Mathlib.Omega.{arith}
 use borrow.Author.Needs.{needs}
-use Rattle.root.proofs.Squares.{fits, not-least, not-most, moved}
-use Rattle.root.proofs.near_root.Statement.{statement}
-use Rattle.root.proofs.near_root.Tie as tie
+use Rattle.sqrt.proofs.Squares.{fits, not-least, not-most, moved}
+use Rattle.sqrt.proofs.near_root.Statement.{statement}
+use Rattle.sqrt.proofs.near_root.Tie as tie
 
 abbrev Inv-loop : tie.InvT-loop
 Inv-loop t m n₀ n = (8388608 ≤ n) × (n < 16777216)

@@ -6,7 +6,7 @@ use lib.Dec.{T}
 use lib.Ieee.{Float, binary32, fits}
 use lib.Ieee.Exact.{HasValue}
 use lib.Ieee.Positive.{positive}
-use Rattle.root.specs.Root.{rootOf}
+use Rattle.sqrt.specs.Root.{rootOf}
 
 -- x is N units of 2 ^ -149, and not negative
 abbrev pub IsUnits : Float → ℕ → Type 0

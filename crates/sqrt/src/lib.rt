@@ -2,8 +2,8 @@
 // else the f32 nearest the true root. Whole numbers decide: a first guess opens, and comparisons of squares correct it.
 ghost use mathlib.Core.Path.{_≡_};
 ghost use Prim.Native.Nat.{_+_, _*_, _^_, _<_, _≤_};
-ghost use Rattle.root.specs.Root.{rootOf, rootUnits, NearestWhole};
-ghost use Rattle.root.specs.Openings as Openings;
+ghost use Rattle.sqrt.specs.Root.{rootOf, rootUnits, NearestWhole};
+ghost use Rattle.sqrt.specs.Openings as Openings;
 
 mod table;
 

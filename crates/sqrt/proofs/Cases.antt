@@ -13,8 +13,8 @@ use lib.Ieee.Exact.{odd-sign}
 use lib.Ieee.Fits.{down-pos, up-pos}
 use borrow.Author.Tests.{le-ltb, ltb-false}
 use lib.Ieee.Positive.{positive}
-use Rattle.root.specs.Root.{rootOf, rootUnits}
-use Rattle.root.specs.Nearest.{IsUnits}
+use Rattle.sqrt.specs.Root.{rootOf, rootUnits}
+use Rattle.sqrt.specs.Nearest.{IsUnits}
 use Rattle.bits.specs.Patterns.{normal, small-is}
 
 -- ---- the tests on floats

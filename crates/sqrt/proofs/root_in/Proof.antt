@@ -8,12 +8,12 @@ use lib.Count.{leadingZeros}
 use lib.Ieee.{Float, binary32, fits, ofBits, toBits}
 use lib.Ieee.Bits.{ofBits-toBits}
 use lib.Ieee.Positive.{positive}
-use Rattle.root.specs.Root.{rootOf, rootUnits}
+use Rattle.sqrt.specs.Root.{rootOf, rootUnits}
 use Rattle.bits.specs.Patterns.{not-nan, none-above}
-use Rattle.root.proofs.Cases.{nan-stays, negative, stays, normal-case, Normalized, normalize, small-case}
+use Rattle.sqrt.proofs.Cases.{nan-stays, negative, stays, normal-case, Normalized, normalize, small-case}
 use borrow.Author.Needs.{needs}
-use Rattle.root.proofs.root_in.Statement.{statement}
-use Rattle.root.proofs.root_in.Tie as tie
+use Rattle.sqrt.proofs.root_in.Statement.{statement}
+use Rattle.sqrt.proofs.root_in.Tie as tie
 
 -- what owning an `f32` tells: the format holds it
 held : (c : tie.Start) → T (fits binary32 (c .args .x))

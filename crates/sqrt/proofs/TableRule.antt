@@ -4,8 +4,8 @@ use Prim.Native.Nat.{ℕ, zero, suc, _+_, _*_, _<_}
 use native.Mathlib.Nat.{add-zero, zero-add, add-suc, suc-add, le-of-suc-le-suc, not-suc-le-zero}
 use native.Mathlib.Omega.{arith}
 use lib.ListN.{length, getD}
-use Rattle.root.specs.Openings.{Opens, opening, entries, openings}
-use Rattle.root.proofs.Isqrt.{isqrt-floor}
+use Rattle.sqrt.specs.Openings.{Opens, opening, entries, openings}
+use Rattle.sqrt.proofs.Isqrt.{isqrt-floor}
 
 opens : (j : ℕ) → j < 1024 → Opens j (opening j)
 unfolding opening

@@ -17,11 +17,11 @@ use lib.Ieee.Fits.{odd-fits}
 use lib.Ieee.Positive.{positive, den, den-pos, value→cross, value-pos, positive-of-value}
 use borrow.Author.Tests.{leb-true, leb-false}
 use Rattle.bits.specs.Patterns.{bits-under}
-use Rattle.root.specs.Root.{isqrt, rootOf, rootUnits, NearestWhole}
-use Rattle.root.specs.Nearest.{IsUnits, Nearer, NearestRoot, RootIsNearest}
-use Rattle.root.proofs.Squares.{not-most, moved}
-use Rattle.root.proofs.Isqrt.{Floor, isqrt-floor, split, scaled-root}
-use Rattle.root.proofs.Cases.{by-value, normal-units, normal-scale, small-units, small-scale, normalize}
+use Rattle.sqrt.specs.Root.{isqrt, rootOf, rootUnits, NearestWhole}
+use Rattle.sqrt.specs.Nearest.{IsUnits, Nearer, NearestRoot, RootIsNearest}
+use Rattle.sqrt.proofs.Squares.{not-most, moved}
+use Rattle.sqrt.proofs.Isqrt.{Floor, isqrt-floor, split, scaled-root}
+use Rattle.sqrt.proofs.Cases.{by-value, normal-units, normal-scale, small-units, small-scale, normalize}
 
 -- ---- the points half way to numbers of the same grid, P = 2 ^ k apart
 over : (m r P Y : ℕ) → 0 < P → m ≤ r * (r + 1) → (r + 1) * P ≤ Y → 4 * (m * (P * P)) < (r * P + Y) * (r * P + Y)

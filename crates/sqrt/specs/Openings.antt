@@ -2,7 +2,7 @@
 -- That `openings` meets this rule at every j, and has 1,024 entries, is `opening-rule` and `opening-count` (proofs/TableRule.antt). Assumes nothing.
 use mathlib.Core.List.{List, [], _∷_}
 use Prim.Native.Nat.{ℕ, zero, suc, _+_, _*_, _≤_, _<_}
-use Rattle.root.specs.Root.{isqrt}
+use Rattle.sqrt.specs.Root.{isqrt}
 
 -- n is the largest whole number with n * n ≤ 64 * j
 pub record Opens (j n : ℕ) : Type 0 where

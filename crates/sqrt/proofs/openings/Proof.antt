@@ -1,8 +1,8 @@
 -- `openings` meets its contract: antt computes the definition's 1,024 entries. Assumes nothing.
 use mathlib.Core.Path.{refl}
-use Rattle.root.specs.Openings.{openings}
-use Rattle.root.proofs.openings.Statement.{statement}
-use Rattle.root.proofs.openings.Tie as tie
+use Rattle.sqrt.specs.Openings.{openings}
+use Rattle.sqrt.proofs.openings.Statement.{statement}
+use Rattle.sqrt.proofs.openings.Tie as tie
 
 returns : tie.Need-returns
 unfolding openings
