@@ -8,6 +8,27 @@ unsafe extern "C" {
         active: u32, sections: *const f32, gain: f32, cursor: *mut usize, targets: *const f32, targets_len: usize,
         records: *mut f32, records_len: usize, delay: *mut f32, delay_len: usize, frames: usize, pitch: *const f32, pitch_len: usize,
         steered: bool, x: *const f32, x_len: usize, y: *const f32, y_len: usize, audio: *mut f32, audio_len: usize, rendered: *mut usize) -> u32;
+    fn sentivolus_openings(t: *mut [u8; 1024]);
+    fn sentivolus_root(x: f32, t: *const [u8; 1024]) -> f32;
+}
+
+/// ns a root in a dependent chain: ours and the machine's.
+fn roots() -> (f64, f64) {
+    let mut t = [0u8; 1024];
+    unsafe { sentivolus_openings(&mut t) };
+    let n = 100_000;
+    let chain = |root: &dyn Fn(f32) -> f32| {
+        let mut best = f64::MAX;
+        for _ in 0..40 {
+            let begun = Instant::now();
+            let mut y = std::hint::black_box(1.25f32);
+            for _ in 0..n { y = root(y * 1.75 + 0.375); }
+            std::hint::black_box(y);
+            best = best.min(begun.elapsed().as_nanos() as f64 / n as f64);
+        }
+        best
+    };
+    (chain(&|x| unsafe { sentivolus_root(x, &t) }), chain(&|x| x.sqrt()))
 }
 
 struct Case { engine: Engine, frames: usize, pitch: Vec<f32>, audio: Vec<f32> }
@@ -81,6 +102,8 @@ pub fn main() {
             println!("{row} |");
         }
     }
+    let (a, b) = roots();
+    println!("\nRoot in a dependent chain (with a product and a sum): {a:.1} ns, the machine's {b:.1} ns ({:.1} times)", a / b);
     println!("\nGrowth, ours, code 9 (Comb2), held pitch, ns a voice-sample:");
     for (what, v, n, frames, rate) in [("1 voice mono, 64 frames", 1, 1, 64, 48000.0), ("4 voices", 4, 1, 64, 48000.0), ("16 voices stereo", 16, 2, 64, 48000.0),
         ("1 frame", 1, 1, 1, 48000.0), ("16 frames", 1, 1, 16, 48000.0), ("4,096 frames", 1, 1, 4096, 48000.0), ("rate 8,000", 1, 1, 64, 8000.0), ("rate 384,000", 1, 1, 64, 384000.0)] {
