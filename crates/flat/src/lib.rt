@@ -1,0 +1,1 @@
+// The DJ sweep is flat near its middle: laws only.
