@@ -1,0 +1,1174 @@
+// Replays lists of calls on the proved bank: copies each call and writes its answer anew, so that the output is the input where
+// every answer is right, bit for bit. The answers of the input, lines that start with `=`, `o`, `h`, `t`, `r` or `d`, are left
+// out; a line that cannot be read gives `?`.
+// Limits: targets 160 numbers, records 960, delay 32,768, each lent with one more at most; pitch, x and y 8,192 numbers each,
+// audio 16,384; the input 1,048,576 bytes.
+ghost use Prim.Native.Nat.{_<_, _≤_};
+ghost use lib.ListN.{length};
+use bank::Answer;
+use bank::Setup;
+use filter::VoiceParams;
+use pole_zero::Table;
+use text::Span;
+
+// How many numbers of targets, records and delay are lent.
+struct Lengths {
+    targets: usize,
+    records: usize,
+    delay: usize,
+}
+
+// What the next call is handed beside the lists' numbers. `own` are the lists' lengths and `lent` those that the next call is
+// given, which a `lend` line changes. The fields from `frames` on are a block's as its lines are read: `awaited` counts those
+// still to come, and `pitch` to `audio` are how many numbers its lists have.
+struct State {
+    setup: Setup,
+    cursor: usize,
+    own: Lengths,
+    lent: Lengths,
+    frames: usize,
+    steered: bool,
+    digest: bool,
+    awaited: usize,
+    pitch: usize,
+    x: usize,
+    y: usize,
+    audio: usize,
+}
+
+// A state that a line was read into; not ok where it cannot be read.
+struct StateRead {
+    state: State,
+    ok: bool,
+}
+
+struct TableRead {
+    table: Table,
+    ok: bool,
+}
+
+// How many numbers a list has; not ok where it cannot be read or does not fit.
+struct ListRead {
+    count: usize,
+    ok: bool,
+}
+
+// A number and how often it stands in a row; 0 times where the word is no run.
+struct Run {
+    value: f32,
+    count: usize,
+}
+
+// The state after a line, and a position: where the output ends in the buffer, or where the next line starts.
+struct Step {
+    state: State,
+    at: usize,
+}
+
+// The lesser of n and `most`.
+fn at_most(n: usize, most: usize) -> usize
+    ensures { λ r. ⌜ r ≤ most ⌝ }
+{
+    if n < most { n } else { most }
+}
+
+// The place of `name` in the list of names, from 0; 99 where it is none of them.
+fn place(names: &[u8], name: &[u8]) -> usize {
+    let mut at = 0;
+    let mut k = 0;
+    while at < names.len() {
+        let end = text::word(names, at).end;
+        if end < at {
+            return 99;
+        }
+        if end > names.len() {
+            return 99;
+        }
+        if check::same(&names[at..end], name) {
+            return k;
+        }
+        if end == names.len() {
+            return 99;
+        }
+        at = end + 1;
+        k += 1;
+    }
+    99
+}
+
+// Where the first sixteen words start; answers how many there are.
+fn split(s: &[u8], starts: &mut [usize; 16]) -> usize {
+    let mut at = 0;
+    let mut n = 0;
+    while n < 16 {
+        if at >= s.len() {
+            return n;
+        }
+        starts[n] = at;
+        n += 1;
+        let end = text::word(s, at).end;
+        if end >= s.len() {
+            return n;
+        }
+        at = end + 1;
+    }
+    n
+}
+
+// Where word k starts, of n; the line's end where there is none.
+fn start_of(s: &[u8], starts: &[usize; 16], n: usize, k: usize) -> usize {
+    if k < n {
+        if k < 16 {
+            return starts[k];
+        }
+    }
+    s.len()
+}
+
+// Word k as bits; 2^32 where it is not eight hexadecimal digits.
+fn bits_at(s: &[u8], starts: &[usize; 16], k: usize) -> u64 {
+    if k < 16 {
+        let p = text::hexadecimal(s, text::word(s, starts[k]));
+        return match p {
+            text::Pattern::Bits(b) => b as u64,
+            text::Pattern::Malformed => 4294967296,
+        };
+    }
+    4294967296
+}
+
+// Word k as an f32; 0 where it is none.
+fn float_at(s: &[u8], starts: &[usize; 16], k: usize) -> f32 {
+    if k < 16 {
+        let p = text::hexadecimal(s, text::word(s, starts[k]));
+        return match p {
+            text::Pattern::Bits(b) => text::float_of(b),
+            text::Pattern::Malformed => 0.0,
+        };
+    }
+    0.0
+}
+
+// Whether the words from `from` up to `to` are all f32.
+fn are_floats(s: &[u8], starts: &[usize; 16], from: usize, to: usize) -> bool {
+    let mut k = from;
+    while k < to {
+        if bits_at(s, starts, k) == 4294967296 {
+            return false;
+        }
+        k += 1;
+    }
+    true
+}
+
+// Word k as a decimal; `or` where it is none.
+fn decimal_at(s: &[u8], starts: &[usize; 16], k: usize, or: u64) -> u64 {
+    if k < 16 {
+        let d = text::decimal(s, text::word(s, starts[k]));
+        return match d {
+            text::Number::Value(v) => v,
+            text::Number::Refused => or,
+        };
+    }
+    or
+}
+
+// Word k as a number of the bank's; 0 where it is none.
+fn count_at(s: &[u8], starts: &[usize; 16], k: usize) -> usize {
+    decimal_at(s, starts, k, 0) as usize
+}
+
+// The low 32 bits of word k.
+fn code_at(s: &[u8], starts: &[usize; 16], k: usize) -> u32 {
+    (decimal_at(s, starts, k, 0) % 4294967296) as u32
+}
+
+// Whether the words from `from` up to `to` are all decimals.
+fn are_decimals(s: &[u8], starts: &[usize; 16], from: usize, to: usize) -> bool {
+    let mut k = from;
+    while k < to {
+        if decimal_at(s, starts, k, 0) != decimal_at(s, starts, k, 1) {
+            return false;
+        }
+        k += 1;
+    }
+    true
+}
+
+// How often a number stands: once where its word ends at `at`, else as the decimal after a `*` says.
+fn times(s: &[u8], at: usize, end: usize) -> usize {
+    if at == end {
+        return 1;
+    }
+    if at < s.len() {
+        if s[at] == b'*' {
+            let d = text::decimal(
+                s,
+                Span {
+                    start: at + 1,
+                    end: end,
+                },
+            );
+            return match d {
+                text::Number::Value(v) => v as usize,
+                text::Number::Refused => 0,
+            };
+        }
+    }
+    0
+}
+
+// The run from `at` up to `end`: eight hexadecimal digits, and a count where it is not 1.
+fn run_at(s: &[u8], at: usize, end: usize) -> Run {
+    if end < 8 {
+        return Run {
+            value: 0.0,
+            count: 0,
+        };
+    }
+    if at > end - 8 {
+        return Run {
+            value: 0.0,
+            count: 0,
+        };
+    }
+    let p = text::hexadecimal(
+        s,
+        Span {
+            start: at,
+            end: at + 8,
+        },
+    );
+    match p {
+        text::Pattern::Bits(b) => Run {
+            value: text::float_of(b),
+            count: times(s, at + 8, end),
+        },
+        text::Pattern::Malformed => Run {
+            value: 0.0,
+            count: 0,
+        },
+    }
+}
+
+// Writes `value` from `from` up to `to`.
+fn fill(xs: &mut [f32], from: usize, to: usize, value: f32)
+    requires { ⌜ to ≤ length (now xs) ⌝ }
+{
+    let mut i = from;
+    while i < to {
+        xs[i] = value;
+        i += 1;
+    }
+}
+
+// Reads the runs from `from` to the line's end into the list.
+fn read_list(s: &[u8], from: usize, xs: &mut [f32]) -> ListRead {
+    let mut at = from;
+    let mut n = 0;
+    while at < s.len() {
+        let end = text::word(s, at).end;
+        let run = run_at(s, at, end);
+        let count = run.count;
+        if count == 0 {
+            return ListRead {
+                count: n,
+                ok: false,
+            };
+        }
+        if count > xs.len() - n {
+            return ListRead {
+                count: n,
+                ok: false,
+            };
+        }
+        fill(xs, n, n + count, run.value);
+        n += count;
+        if end < at {
+            return ListRead {
+                count: n,
+                ok: false,
+            };
+        }
+        if end >= s.len() {
+            return ListRead { count: n, ok: true };
+        }
+        at = end + 1;
+    }
+    ListRead { count: n, ok: true }
+}
+
+// Reads the list from word 3 on into the numbers from `at` on; the list ends at `own`.
+fn poke(s: &[u8], starts: &[usize; 16], n: usize, own: usize, xs: &mut [f32]) -> ListRead {
+    let at = count_at(s, starts, 2);
+    if own <= xs.len() {
+        if at <= own {
+            return read_list(s, start_of(s, starts, n, 3), &mut xs[at..own]);
+        }
+    }
+    ListRead {
+        count: 0,
+        ok: false,
+    }
+}
+
+// Writes a number's bits.
+fn put_value(out: &mut [u8], at: usize, x: f32) -> usize {
+    text::put_hex(out, at, text::bits_of(x))
+}
+
+// How many numbers from i on have the bits of the first.
+fn run_len(xs: &[f32], i: usize) -> usize {
+    let mut j = i;
+    while j < xs.len() {
+        if text::bits_of(xs[j]) != text::bits_of(xs[i]) {
+            return j - i;
+        }
+        j += 1;
+    }
+    j - i
+}
+
+// A blank, the bits, and the count where it is above 1.
+fn put_run(out: &mut [u8], at: usize, x: f32, n: usize) -> usize {
+    let p = text::put_byte(out, at, b' ');
+    let p = put_value(out, p, x);
+    if n == 1 {
+        return p;
+    }
+    let p = text::put_byte(out, p, b'*');
+    text::put_decimal(out, p, n as u64)
+}
+
+// Writes the numbers' bits in runs.
+fn put_runs(out: &mut [u8], at: usize, xs: &[f32]) -> usize {
+    let mut p = at;
+    let mut i = 0;
+    while i < xs.len() {
+        let n = run_len(xs, i);
+        if n == 0 {
+            return p;
+        }
+        if n > xs.len() - i {
+            return p;
+        }
+        p = put_run(out, p, xs[i], n);
+        i += n;
+    }
+    p
+}
+
+// A line of a list: its letter, and the numbers in runs.
+fn put_list(out: &mut [u8], at: usize, letter: u8, xs: &[f32]) -> usize {
+    let p = text::put_byte(out, at, letter);
+    let p = put_runs(out, p, xs);
+    text::put_byte(out, p, b'\n')
+}
+
+// A line of a list's sums mod 2^32: s1 += bits + 1 and s2 += s1 over the numbers, both from 0.
+fn put_digest(out: &mut [u8], at: usize, xs: &[f32]) -> usize {
+    let mut s1 = 0u32;
+    let mut s2 = 0u32;
+    let mut i = 0;
+    while i < xs.len() {
+        let bits = text::bits_of(xs[i]);
+        s1 = std::num::wrapping_add_u32(std::num::wrapping_add_u32(s1, bits), 1);
+        s2 = std::num::wrapping_add_u32(s2, s1);
+        i += 1;
+    }
+    let p = text::put_bytes(out, at, b"h ");
+    let p = text::put_hex(out, p, s1);
+    let p = text::put_byte(out, p, b' ');
+    let p = text::put_hex(out, p, s2);
+    text::put_byte(out, p, b'\n')
+}
+
+// `= ok` and the cursor
+fn put_ok(out: &mut [u8], at: usize, cursor: usize) -> usize {
+    let p = text::put_bytes(out, at, b"= ok ");
+    text::put_decimal(out, p, cursor as u64)
+}
+
+// A call's answer as a line.
+fn put_answer(out: &mut [u8], at: usize, a: Answer) -> usize {
+    match a {
+        Answer::Refused(n) => {
+            let p = text::put_bytes(out, at, b"= refused ");
+            let p = text::put_decimal(out, p, n as u64);
+            text::put_byte(out, p, b'\n')
+        }
+        Answer::Kept(cursor) => {
+            let p = put_ok(out, at, cursor);
+            text::put_byte(out, p, b'\n')
+        }
+        Answer::Rendered(cursor, frames) => {
+            let p = put_ok(out, at, cursor);
+            let p = text::put_byte(out, p, b' ');
+            let p = text::put_decimal(out, p, frames as u64);
+            text::put_byte(out, p, b'\n')
+        }
+    }
+}
+
+fn is_accepted(a: Answer) -> bool {
+    match a {
+        Answer::Refused(_) => false,
+        Answer::Kept(_) => true,
+        Answer::Rendered(_, _) => true,
+    }
+}
+
+// The cursor after a call, which keeps it where it is refused.
+fn cursor_after(a: Answer, cursor: usize) -> usize {
+    match a {
+        Answer::Refused(_) => cursor,
+        Answer::Kept(c) => c,
+        Answer::Rendered(c, _) => c,
+    }
+}
+
+// A scenario's start: no lists, and a table of zeros, active 0, gain 1.
+fn fresh() -> State {
+    State {
+        setup: Setup {
+            code: 0,
+            rate: 0.0,
+            reference: 0.0,
+            voices: 0,
+            channels: 0,
+            clean: false,
+            table: Table {
+                active: 0,
+                sections: [0f32; 160],
+                gain: 1.0,
+            },
+        },
+        cursor: 0,
+        own: Lengths {
+            targets: 0,
+            records: 0,
+            delay: 0,
+        },
+        lent: Lengths {
+            targets: 0,
+            records: 0,
+            delay: 0,
+        },
+        frames: 0,
+        steered: false,
+        digest: false,
+        awaited: 0,
+        pitch: 0,
+        x: 0,
+        y: 0,
+        audio: 0,
+    }
+}
+
+// `table` active gain nums
+fn table_at(s: &[u8], starts: &[usize; 16], n: usize) -> TableRead {
+    let mut sections = [0f32; 160];
+    let read = read_list(s, start_of(s, starts, n, 3), &mut sections);
+    TableRead {
+        table: Table {
+            active: code_at(s, starts, 1),
+            sections: sections,
+            gain: float_at(s, starts, 2),
+        },
+        ok: read.ok & (n >= 3) & are_decimals(s, starts, 1, 2) & are_floats(s, starts, 2, 3),
+    }
+}
+
+// The setup of words 1 to 6, over a table.
+fn setup_at(s: &[u8], starts: &[usize; 16], table: Table) -> Setup {
+    Setup {
+        code: code_at(s, starts, 1),
+        rate: float_at(s, starts, 2),
+        reference: float_at(s, starts, 3),
+        voices: count_at(s, starts, 4),
+        channels: count_at(s, starts, 5),
+        clean: count_at(s, starts, 6) != 0,
+        table: table,
+    }
+}
+
+fn is_setup(s: &[u8], starts: &[usize; 16]) -> bool {
+    are_decimals(s, starts, 1, 2) & are_floats(s, starts, 2, 4) & are_decimals(s, starts, 4, 7)
+}
+
+// The three lengths from word k on.
+fn lengths_at(s: &[u8], starts: &[usize; 16], k: usize) -> Lengths
+    requires { ⌜ k < 16 ⌝ }
+{
+    Lengths {
+        targets: count_at(s, starts, k),
+        records: count_at(s, starts, k + 1),
+        delay: count_at(s, starts, k + 2),
+    }
+}
+
+fn are_lengths(s: &[u8], starts: &[usize; 16], k: usize) -> bool
+    requires { ⌜ k < 16 ⌝ }
+{
+    let l = lengths_at(s, starts, k);
+    are_decimals(s, starts, k, k + 3) & (l.targets <= 161) & (l.records <= 961) & (l.delay <= 32769)
+}
+
+fn read_table(s: &[u8], starts: &[usize; 16], n: usize, st: State) -> StateRead {
+    let mut next = st;
+    let read = table_at(s, starts, n);
+    let mut setup = st.setup;
+    let table = read.table;
+    setup.table = table;
+    next.setup = setup;
+    StateRead {
+        state: next,
+        ok: read.ok,
+    }
+}
+
+fn read_setup(s: &[u8], starts: &[usize; 16], n: usize, st: State) -> StateRead {
+    let mut next = st;
+    let old = st.setup;
+    let setup = setup_at(s, starts, old.table);
+    next.setup = setup;
+    StateRead {
+        state: next,
+        ok: (n == 7) & is_setup(s, starts),
+    }
+}
+
+// `open` code rate reference voices channels clean T R D
+fn read_open(s: &[u8], starts: &[usize; 16], n: usize, st: State) -> StateRead {
+    let mut next = st;
+    let old = st.setup;
+    let setup = setup_at(s, starts, old.table);
+    let own = lengths_at(s, starts, 7);
+    next.setup = setup;
+    next.cursor = 0;
+    next.own = own;
+    next.lent = own;
+    StateRead {
+        state: next,
+        ok: (n == 10) & is_setup(s, starts) & are_lengths(s, starts, 7),
+    }
+}
+
+fn read_lend(s: &[u8], starts: &[usize; 16], n: usize, st: State) -> StateRead {
+    let mut next = st;
+    let lent = lengths_at(s, starts, 1);
+    next.lent = lent;
+    StateRead {
+        state: next,
+        ok: (n == 4) & are_lengths(s, starts, 1),
+    }
+}
+
+fn read_cursor(s: &[u8], starts: &[usize; 16], n: usize, st: State) -> StateRead {
+    let mut next = st;
+    next.cursor = count_at(s, starts, 1);
+    StateRead {
+        state: next,
+        ok: (n == 2) & are_decimals(s, starts, 1, 2),
+    }
+}
+
+// `block` or `blockh` frames steered; four lines follow.
+fn read_block(s: &[u8], starts: &[usize; 16], n: usize, st: State, digest: bool) -> StateRead {
+    let mut next = st;
+    next.frames = count_at(s, starts, 1);
+    next.steered = count_at(s, starts, 2) != 0;
+    next.digest = digest;
+    next.awaited = 4;
+    StateRead {
+        state: next,
+        ok: (n == 3) & are_decimals(s, starts, 1, 3),
+    }
+}
+
+// What a line says beside the lists' numbers. `word` counts the names in `command`.
+fn read_state(word: usize, s: &[u8], starts: &[usize; 16], n: usize, st: State) -> StateRead {
+    match word {
+        0 => StateRead {
+            state: fresh(),
+            ok: true,
+        },
+        1 => read_table(s, starts, n, st),
+        2 => read_open(s, starts, n, st),
+        3 => read_setup(s, starts, n, st),
+        4 => read_lend(s, starts, n, st),
+        5 => read_cursor(s, starts, n, st),
+        6 => StateRead {
+            state: st,
+            ok: (n > 2) & are_decimals(s, starts, 2, 3),
+        },
+        7 => StateRead {
+            state: st,
+            ok: (n == 11) & are_decimals(s, starts, 1, 2) & are_floats(s, starts, 2, 11),
+        },
+        8 => StateRead {
+            state: st,
+            ok: (n == 2) & are_decimals(s, starts, 1, 2),
+        },
+        9 => read_block(s, starts, n, st, false),
+        10 => read_block(s, starts, n, st, true),
+        _ => StateRead {
+            state: st,
+            ok: word <= 15,
+        },
+    }
+}
+
+// The place in `names` of the word at `at`; 99 where it is none of them.
+fn name_at(names: &[u8], s: &[u8], at: usize) -> usize {
+    let end = text::word(s, at).end;
+    if end < at {
+        return 99;
+    }
+    if end > s.len() {
+        return 99;
+    }
+    place(names, &s[at..end])
+}
+
+// `poke` t|r|d at nums
+fn poke_list(
+    s: &[u8],
+    starts: &[usize; 16],
+    n: usize,
+    own: Lengths,
+    targets: &mut [f32; 161],
+    records: &mut [f32; 961],
+    delay: &mut [f32; 32769],
+) -> ListRead {
+    let list = name_at(b"t r d", s, start_of(s, starts, n, 1));
+    match list {
+        0 => poke(s, starts, n, own.targets, targets),
+        1 => poke(s, starts, n, own.records, records),
+        2 => poke(s, starts, n, own.delay, delay),
+        _ => ListRead {
+            count: 0,
+            ok: false,
+        },
+    }
+}
+
+// The numbers of a line that go into a list.
+fn read_numbers(
+    word: usize,
+    s: &[u8],
+    starts: &[usize; 16],
+    n: usize,
+    own: Lengths,
+    targets: &mut [f32; 161],
+    records: &mut [f32; 961],
+    delay: &mut [f32; 32769],
+    pitch: &mut [f32; 8192],
+    x: &mut [f32; 8192],
+    y: &mut [f32; 8192],
+    audio: &mut [f32; 16384],
+) -> ListRead {
+    let from = start_of(s, starts, n, 1);
+    match word {
+        6 => poke_list(s, starts, n, own, targets, records, delay),
+        12 => read_list(s, from, pitch),
+        13 => read_list(s, from, x),
+        14 => read_list(s, from, y),
+        15 => read_list(s, from, audio),
+        _ => ListRead { count: 0, ok: true },
+    }
+}
+
+// The lines of a block go p, x, y, a, and no other line stands between them.
+fn in_order(word: usize, awaited: usize) -> bool {
+    match word {
+        12 => awaited == 4,
+        13 => awaited == 3,
+        14 => awaited == 2,
+        15 => awaited == 1,
+        _ => awaited == 0,
+    }
+}
+
+// The state after a line of a block that has `count` numbers.
+fn counted(word: usize, st: State, count: usize) -> State {
+    let mut next = st;
+    match word {
+        12 => {
+            next.pitch = count;
+            next.awaited = 3;
+        }
+        13 => {
+            next.x = count;
+            next.awaited = 2;
+        }
+        14 => {
+            next.y = count;
+            next.awaited = 1;
+        }
+        15 => {
+            next.audio = count;
+            next.awaited = 0;
+        }
+        _ => {}
+    }
+    next
+}
+
+// The lists anew, each number a half, and `open`.
+fn open_call(
+    st: State,
+    targets: &mut [f32],
+    records: &mut [f32],
+    delay: &mut [f32],
+    out: &mut [u8],
+    at: usize,
+) -> usize {
+    let own = st.own;
+    let t = at_most(own.targets, targets.len());
+    let r = at_most(own.records, records.len());
+    let d = at_most(own.delay, delay.len());
+    fill(targets, 0, t, 0.5);
+    fill(records, 0, r, 0.5);
+    fill(delay, 0, d, 0.5);
+    let opened = bank::open(
+        st.setup,
+        &mut targets[0..t],
+        &mut records[0..r],
+        &mut delay[0..d],
+    );
+    let a = opened.answer;
+    put_answer(out, at, a)
+}
+
+// The nine settings from word 2 on.
+fn params_at(s: &[u8], starts: &[usize; 16]) -> VoiceParams {
+    VoiceParams {
+        resonance: float_at(s, starts, 2),
+        drive: float_at(s, starts, 3),
+        saturation: float_at(s, starts, 4),
+        character: float_at(s, starts, 5),
+        stereo_offset: float_at(s, starts, 6),
+        mix: float_at(s, starts, 7),
+        level: float_at(s, starts, 8),
+        morph_x: float_at(s, starts, 9),
+        morph_y: float_at(s, starts, 10),
+    }
+}
+
+// The ten targets of a voice.
+fn put_voice(out: &mut [u8], at: usize, voice: usize, targets: &[f32]) -> usize {
+    let from = 10 * at_most(voice, 15);
+    if from + 10 <= targets.len() {
+        return put_list(out, at, b't', &targets[from..from + 10]);
+    }
+    at
+}
+
+// `set` voice and nine floats; where it is accepted the voice's targets follow the answer.
+fn set_call(
+    s: &[u8],
+    starts: &[usize; 16],
+    st: State,
+    targets: &mut [f32],
+    out: &mut [u8],
+    at: usize,
+) -> usize {
+    let voice = count_at(s, starts, 1);
+    let lent = st.lent;
+    let t = at_most(lent.targets, targets.len());
+    let a = bank::set(
+        st.setup,
+        st.cursor,
+        &mut targets[0..t],
+        voice,
+        params_at(s, starts),
+    );
+    let p = put_answer(out, at, a);
+    if is_accepted(a) {
+        return put_voice(out, p, voice, targets);
+    }
+    p
+}
+
+fn start_call(
+    st: State,
+    voice: usize,
+    targets: &[f32],
+    records: &mut [f32],
+    delay: &mut [f32],
+    out: &mut [u8],
+    at: usize,
+) -> usize {
+    let lent = st.lent;
+    let t = at_most(lent.targets, targets.len());
+    let r = at_most(lent.records, records.len());
+    let d = at_most(lent.delay, delay.len());
+    let a = bank::start(
+        st.setup,
+        st.cursor,
+        &targets[0..t],
+        &mut records[0..r],
+        &mut delay[0..d],
+        voice,
+    );
+    put_answer(out, at, a)
+}
+
+fn block_call(
+    st: State,
+    targets: &[f32],
+    records: &mut [f32],
+    delay: &mut [f32],
+    pitch: &[f32],
+    x: &[f32],
+    y: &[f32],
+    audio: &mut [f32],
+) -> Answer {
+    let lent = st.lent;
+    let t = at_most(lent.targets, targets.len());
+    let r = at_most(lent.records, records.len());
+    let d = at_most(lent.delay, delay.len());
+    let pn = at_most(st.pitch, pitch.len());
+    let xn = at_most(st.x, x.len());
+    let yn = at_most(st.y, y.len());
+    let an = at_most(st.audio, audio.len());
+    bank::block(
+        st.setup,
+        st.cursor,
+        &targets[0..t],
+        &mut records[0..r],
+        &mut delay[0..d],
+        st.frames,
+        &pitch[0..pn],
+        st.steered,
+        &x[0..xn],
+        &y[0..yn],
+        &mut audio[0..an],
+    )
+}
+
+// A block's answer, and its samples or their sums where it is accepted.
+fn put_block(out: &mut [u8], at: usize, a: Answer, st: State, audio: &[f32]) -> usize {
+    let n = at_most(st.audio, audio.len());
+    let p = put_answer(out, at, a);
+    if is_accepted(a) {
+        if st.digest {
+            return put_digest(out, p, &audio[0..n]);
+        }
+        return put_list(out, p, b'o', &audio[0..n]);
+    }
+    p
+}
+
+// All targets, records and delay.
+fn dump(
+    own: Lengths,
+    targets: &[f32],
+    records: &[f32],
+    delay: &[f32],
+    out: &mut [u8],
+    at: usize,
+) -> usize {
+    let t = at_most(own.targets, targets.len());
+    let r = at_most(own.records, records.len());
+    let d = at_most(own.delay, delay.len());
+    let p = put_list(out, at, b't', &targets[0..t]);
+    let p = put_list(out, p, b'r', &records[0..r]);
+    put_list(out, p, b'd', &delay[0..d])
+}
+
+// The state after a call: the next is handed this cursor and lent the lists at their own lengths.
+fn after_call(st: State, cursor: usize) -> State {
+    let mut next = st;
+    let own = st.own;
+    next.cursor = cursor;
+    next.lent = own;
+    next
+}
+
+// Makes the call of a line and writes its answer after the line.
+fn respond(
+    word: usize,
+    s: &[u8],
+    starts: &[usize; 16],
+    st: State,
+    targets: &mut [f32; 161],
+    records: &mut [f32; 961],
+    delay: &mut [f32; 32769],
+    pitch: &[f32; 8192],
+    x: &[f32; 8192],
+    y: &[f32; 8192],
+    audio: &mut [f32; 16384],
+    out: &mut [u8; 524288],
+    at: usize,
+) -> Step {
+    match word {
+        2 => Step {
+            state: st,
+            at: open_call(st, targets, records, delay, out, at),
+        },
+        7 => Step {
+            state: after_call(st, st.cursor),
+            at: set_call(s, starts, st, targets, out, at),
+        },
+        8 => Step {
+            state: after_call(st, st.cursor),
+            at: start_call(st, count_at(s, starts, 1), targets, records, delay, out, at),
+        },
+        11 => Step {
+            state: st,
+            at: dump(st.own, targets, records, delay, out, at),
+        },
+        15 => {
+            let a = block_call(st, targets, records, delay, pitch, x, y, audio);
+            Step {
+                state: after_call(st, cursor_after(a, st.cursor)),
+                at: put_block(out, at, a, st, audio),
+            }
+        }
+        _ => Step { state: st, at: at },
+    }
+}
+
+// A line that is no comment and no answer.
+fn command(
+    s: &[u8],
+    st: State,
+    targets: &mut [f32; 161],
+    records: &mut [f32; 961],
+    delay: &mut [f32; 32769],
+    pitch: &mut [f32; 8192],
+    x: &mut [f32; 8192],
+    y: &mut [f32; 8192],
+    audio: &mut [f32; 16384],
+    out: &mut [u8; 524288],
+) -> Step {
+    let mut starts = [0usize; 16];
+    let n = split(s, &mut starts);
+    let word = name_at(
+        b"scenario table open setup lend cursor poke set start block blockh dump p x y a",
+        s,
+        0,
+    );
+    let read = read_state(word, s, &starts, n, st);
+    let numbers = read_numbers(
+        word,
+        s,
+        &starts,
+        n,
+        st.own,
+        targets,
+        records,
+        delay,
+        pitch,
+        x,
+        y,
+        audio,
+    );
+    if read.ok & numbers.ok & in_order(word, st.awaited) {
+        let p = text::put_bytes(out, 0, s);
+        let p = text::put_byte(out, p, b'\n');
+        return respond(
+            word,
+            s,
+            &starts,
+            counted(word, read.state, numbers.count),
+            targets,
+            records,
+            delay,
+            pitch,
+            x,
+            y,
+            audio,
+            out,
+            p,
+        );
+    }
+    Step {
+        state: st,
+        at: text::put_bytes(out, 0, b"?\n"),
+    }
+}
+
+// A line without its newline.
+fn line(
+    s: &[u8],
+    st: State,
+    targets: &mut [f32; 161],
+    records: &mut [f32; 961],
+    delay: &mut [f32; 32769],
+    pitch: &mut [f32; 8192],
+    x: &mut [f32; 8192],
+    y: &mut [f32; 8192],
+    audio: &mut [f32; 16384],
+    out: &mut [u8; 524288],
+) -> Step {
+    if s.len() == 0 {
+        return Step { state: st, at: 0 };
+    }
+    if s[0] == b'#' {
+        let p = text::put_bytes(out, 0, s);
+        return Step {
+            state: st,
+            at: text::put_byte(out, p, b'\n'),
+        };
+    }
+    if name_at(b"= o h t r d", s, 0) < 6 {
+        return Step { state: st, at: 0 };
+    }
+    command(s, st, targets, records, delay, pitch, x, y, audio, out)
+}
+
+fn write(out: &[u8], n: usize) {
+    if n <= out.len() {
+        io::write_all(1, &out[0..n]);
+    }
+}
+
+// The position after a newline at `end`, or the text's end.
+fn after(end: usize, len: usize) -> usize {
+    if end < len { end + 1 } else { len }
+}
+
+// The line at `at`: the state after it, and where the next one starts.
+fn line_at(
+    s: &[u8],
+    at: usize,
+    st: State,
+    targets: &mut [f32; 161],
+    records: &mut [f32; 961],
+    delay: &mut [f32; 32769],
+    pitch: &mut [f32; 8192],
+    x: &mut [f32; 8192],
+    y: &mut [f32; 8192],
+    audio: &mut [f32; 16384],
+    out: &mut [u8; 524288],
+) -> Step {
+    let end = text::line_end(s, at);
+    let next = after(end, s.len());
+    if end < at {
+        return Step {
+            state: st,
+            at: next,
+        };
+    }
+    if end > s.len() {
+        return Step {
+            state: st,
+            at: next,
+        };
+    }
+    let step = line(
+        &s[at..end],
+        st,
+        targets,
+        records,
+        delay,
+        pitch,
+        x,
+        y,
+        audio,
+        out,
+    );
+    write(out, step.at);
+    let state = step.state;
+    Step {
+        state: state,
+        at: next,
+    }
+}
+
+// Every line of the input.
+fn replay(
+    s: &[u8],
+    targets: &mut [f32; 161],
+    records: &mut [f32; 961],
+    delay: &mut [f32; 32769],
+    pitch: &mut [f32; 8192],
+    x: &mut [f32; 8192],
+    y: &mut [f32; 8192],
+    audio: &mut [f32; 16384],
+    out: &mut [u8; 524288],
+) {
+    let mut st = fresh();
+    let mut at = 0;
+    while at < s.len() {
+        let step = line_at(s, at, st, targets, records, delay, pitch, x, y, audio, out);
+        st = step.state;
+        let next = step.at;
+        if next <= at {
+            return;
+        }
+        if next > s.len() {
+            return;
+        }
+        at = next;
+    }
+}
+
+// Reads the input and replays it.
+fn read_and_replay(
+    input: &mut [u8],
+    targets: &mut [f32; 161],
+    records: &mut [f32; 961],
+    delay: &mut [f32; 32769],
+    pitch: &mut [f32; 8192],
+    x: &mut [f32; 8192],
+    y: &mut [f32; 8192],
+    audio: &mut [f32; 16384],
+    out: &mut [u8; 524288],
+) {
+    let n = io::read_full(0, input);
+    if n <= input.len() {
+        replay(
+            &input[0..n],
+            targets,
+            records,
+            delay,
+            pitch,
+            x,
+            y,
+            audio,
+            out,
+        );
+    }
+}
+
+// The same with the input's array by its type: the length of a local array of this size takes the prover too deep.
+fn replay_input(
+    input: &mut [u8; 1048576],
+    targets: &mut [f32; 161],
+    records: &mut [f32; 961],
+    delay: &mut [f32; 32769],
+    pitch: &mut [f32; 8192],
+    x: &mut [f32; 8192],
+    y: &mut [f32; 8192],
+    audio: &mut [f32; 16384],
+    out: &mut [u8; 524288],
+) {
+    read_and_replay(input, targets, records, delay, pitch, x, y, audio, out);
+}
+
+fn main() {
+    let mut input = [0u8; 1048576];
+    let mut targets = [0f32; 161];
+    let mut records = [0f32; 961];
+    let mut delay = [0f32; 32769];
+    let mut pitch = [0f32; 8192];
+    let mut x = [0f32; 8192];
+    let mut y = [0f32; 8192];
+    let mut audio = [0f32; 16384];
+    let mut out = [0u8; 524288];
+    replay_input(
+        &mut input,
+        &mut targets,
+        &mut records,
+        &mut delay,
+        &mut pitch,
+        &mut x,
+        &mut y,
+        &mut audio,
+        &mut out,
+    );
+}
