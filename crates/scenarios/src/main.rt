@@ -1,7 +1,7 @@
 // Replays lists of calls on the proved bank: copies each call and writes its answer anew, so that the output is the input where
 // every answer is right, bit for bit. The answers of the input, lines that start with `=`, `o`, `h`, `t`, `r` or `d`, are left
 // out; a line that cannot be read gives `?`.
-// Limits: targets 160 numbers, records 960, delay 32,768, each lent with one more at most; pitch, x and y 8,192 numbers each,
+// Limits: targets 160 numbers, records 960, delay 65,536, each lent with one more at most; pitch, x and y 8,192 numbers each,
 // audio 16,384; the input 1,048,576 bytes.
 ghost use Prim.Native.Nat.{_<_, _≤_};
 ghost use lib.ListN.{length};
@@ -511,7 +511,7 @@ fn are_lengths(s: &[u8], starts: &[usize; 16], k: usize) -> bool
     requires { ⌜ k < 16 ⌝ }
 {
     let l = lengths_at(s, starts, k);
-    are_decimals(s, starts, k, k + 3) & (l.targets <= 161) & (l.records <= 961) & (l.delay <= 32769)
+    are_decimals(s, starts, k, k + 3) & (l.targets <= 161) & (l.records <= 961) & (l.delay <= 65537)
 }
 
 fn read_table(s: &[u8], starts: &[usize; 16], n: usize, st: State) -> StateRead {
@@ -639,7 +639,7 @@ fn poke_list(
     own: Lengths,
     targets: &mut [f32; 161],
     records: &mut [f32; 961],
-    delay: &mut [f32; 32769],
+    delay: &mut [f32; 65537],
 ) -> ListRead {
     let list = name_at(b"t r d", s, start_of(s, starts, n, 1));
     match list {
@@ -662,7 +662,7 @@ fn read_numbers(
     own: Lengths,
     targets: &mut [f32; 161],
     records: &mut [f32; 961],
-    delay: &mut [f32; 32769],
+    delay: &mut [f32; 65537],
     pitch: &mut [f32; 8192],
     x: &mut [f32; 8192],
     y: &mut [f32; 8192],
@@ -895,7 +895,7 @@ fn respond(
     st: State,
     targets: &mut [f32; 161],
     records: &mut [f32; 961],
-    delay: &mut [f32; 32769],
+    delay: &mut [f32; 65537],
     pitch: &[f32; 8192],
     x: &[f32; 8192],
     y: &[f32; 8192],
@@ -937,7 +937,7 @@ fn command(
     st: State,
     targets: &mut [f32; 161],
     records: &mut [f32; 961],
-    delay: &mut [f32; 32769],
+    delay: &mut [f32; 65537],
     pitch: &mut [f32; 8192],
     x: &mut [f32; 8192],
     y: &mut [f32; 8192],
@@ -997,7 +997,7 @@ fn line(
     st: State,
     targets: &mut [f32; 161],
     records: &mut [f32; 961],
-    delay: &mut [f32; 32769],
+    delay: &mut [f32; 65537],
     pitch: &mut [f32; 8192],
     x: &mut [f32; 8192],
     y: &mut [f32; 8192],
@@ -1038,7 +1038,7 @@ fn line_at(
     st: State,
     targets: &mut [f32; 161],
     records: &mut [f32; 961],
-    delay: &mut [f32; 32769],
+    delay: &mut [f32; 65537],
     pitch: &mut [f32; 8192],
     x: &mut [f32; 8192],
     y: &mut [f32; 8192],
@@ -1084,7 +1084,7 @@ fn replay(
     s: &[u8],
     targets: &mut [f32; 161],
     records: &mut [f32; 961],
-    delay: &mut [f32; 32769],
+    delay: &mut [f32; 65537],
     pitch: &mut [f32; 8192],
     x: &mut [f32; 8192],
     y: &mut [f32; 8192],
@@ -1112,7 +1112,7 @@ fn read_and_replay(
     input: &mut [u8],
     targets: &mut [f32; 161],
     records: &mut [f32; 961],
-    delay: &mut [f32; 32769],
+    delay: &mut [f32; 65537],
     pitch: &mut [f32; 8192],
     x: &mut [f32; 8192],
     y: &mut [f32; 8192],
@@ -1140,7 +1140,7 @@ fn replay_input(
     input: &mut [u8; 1048576],
     targets: &mut [f32; 161],
     records: &mut [f32; 961],
-    delay: &mut [f32; 32769],
+    delay: &mut [f32; 65537],
     pitch: &mut [f32; 8192],
     x: &mut [f32; 8192],
     y: &mut [f32; 8192],
@@ -1154,7 +1154,7 @@ fn main() {
     let mut input = [0u8; 1048576];
     let mut targets = [0f32; 161];
     let mut records = [0f32; 961];
-    let mut delay = [0f32; 32769];
+    let mut delay = [0f32; 65537];
     let mut pitch = [0f32; 8192];
     let mut x = [0f32; 8192];
     let mut y = [0f32; 8192];
