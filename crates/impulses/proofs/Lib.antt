@@ -1,0 +1,4 @@
+pub mod Reading
+pub mod Rendering
+pub mod Verdicts
+pub mod Writing

@@ -1,0 +1,2 @@
+pub mod Impulse
+pub mod Cells
