@@ -1,22 +1,21 @@
 -- Laws of the line read: nine digits spell a number below 10 ^ 9, a line ends within its text, and each test of the code is one of
 -- `lineRequest`. Assumes nothing.
-use mathlib.Core.Path.{_≡_, refl, sym, ap, _∙_}
-use mathlib.Core.Bool.{Bool, true, false, cond, _&&_, _||_}
+use mathlib.Core.Path.{_≡_, refl, sym, _∙_}
+use mathlib.Core.Bool.{Bool, true, false, cond, _&&_}
 use mathlib.Core.List.{List, [], _∷_}
 use Prim.Native.Nat.{ℕ, zero, suc, _+_, _-_, _*_, _^_, _≤_, _<_}
 use native.Mathlib.Nat.{mul-le-mul-right, one-le-pow, pow-suc, le-of-suc-le-suc}
 use native.Mathlib.Omega.{arith}
-use lib.Dec.{ltb, leb, eqb}
+use lib.Dec.{ltb, leb}
 use lib.ListN.{length, take, drop, length-take}
 use borrow.Author.Tests.{lt-ltb, le-ltb, le-leb, lt-leb, eq-eqb, ne-eqb, ltb-true}
 use Rattle.text.specs.declared.Span.{Span}
 use Rattle.text.specs.declared.Number.{Number}
-use Rattle.text.specs.declared.Number.the-variants.{Value as Number·Value, Refused as Number·Refused}
-use Rattle.text.specs.Text.{count, before, firstOf, wordAt, lineEnd, bytesOf, digitOf, provided, numberFrom, decimalOf}
-use Rattle.impulses.specs.declared.Decimal.{Decimal}
+use Rattle.text.specs.declared.Number.the-variants.{Value as Number·Value}
+use Rattle.text.specs.Text.{firstOf, wordAt, lineEnd, bytesOf, digitOf, provided, numberFrom, decimalOf}
 use Rattle.impulses.specs.declared.Decimal.the-variants.{Malformed}
-use Rattle.impulses.specs.declared.Request.{Request}
 use Rattle.impulses.specs.declared.Request.the-variants.{Line}
+use Rattle.impulses.specs.Prefix.{malformed, before-within}
 use Rattle.impulses.specs.Impulse.{narrow, shortDecimal, asked, lineRequest}
 
 -- ---- a number of k digits after those that spelled v, which is below m, is below m × 10 ^ k
@@ -63,8 +62,7 @@ module _ (s : List ℕ) (w : Span) (n : ℕ) (is : n ≡ w .end - w .start) wher
   short-below v d h e f = let l : length (bytesOf s w) ≤ 9 = omega (arith, part-length s w) in decimal-below (bytesOf s w) 9 v l (sym e ∙ f)
 
   pub short-long : 9 < n → Malformed ≡ shortDecimal s w
-  unfolding shortDecimal
-  short-long h = let l : 9 < w .end - w .start = omega arith in rw (lt-leb (w .end - w .start) 9 l)
+  short-long h = let l : 9 < w .end - w .start = omega arith in sym (malformed s w (lt-leb (w .end - w .start) 9 l))
 
   pub short-is : (d : Number) → n ≤ 9 → d ≡ decimalOf (bytesOf s w) → narrow d ≡ shortDecimal s w
   unfolding shortDecimal
@@ -72,18 +70,9 @@ module _ (s : List ℕ) (w : Span) (n : ℕ) (is : n ≡ w .end - w .start) wher
 
 -- ---- the line
 
-counted : (t : Bool) (n k : ℕ) → n ≤ k → count t n ≤ suc k
-counted true n k h = omega arith
-counted false n k h = omega arith
-
-before-length : (a b : ℕ) (s : List ℕ) → before a b s ≤ length s
-unfolding before
-before-length a b [] = omega arith
-before-length a b (x ∷ s) = counted (eqb x a || eqb x b) (before a b s) (length s) (before-length a b s)
-
 pub line-end-within : (s : List ℕ) → lineEnd s 0 ≤ length s
 unfolding lineEnd firstOf
-line-end-within s = omega (arith, before-length 10 10 s)
+line-end-within s = omega (arith, before-within 10 10 s)
 
 -- ---- the line's tests, with the words a, b and c that were found
 

@@ -1,12 +1,11 @@
 -- Laws of the rendering: an accepted open and block leave the audio that the definitions give, and parts of the program's lists are the lists
 -- that it feeds. Assumes nothing.
 use mathlib.Core.Path.{_≡_, refl, sym, ap, subst, _∙_}
-use mathlib.Core.Bool.{Bool, true, false}
+use mathlib.Core.Bool.{false}
 use mathlib.Core.List.{List, [], _∷_, _++_}
 use Prim.Native.Nat.{ℕ, zero, suc, _+_, _-_, _*_, _≤_, _<_}
 use native.Mathlib.Nat.{le-of-suc-le-suc}
 use native.Mathlib.Omega.{arith}
-use lib.Dec.{eqb, leb}
 use lib.ListN.{length, take, set, replicate, length-replicate, length-take, length-append}
 use lib.IntN.{pos}
 use lib.Seq.{take-append-le, take-all}
@@ -15,13 +14,13 @@ use borrow.Author.Tests.{eq-eqb, le-leb}
 use Rattle.lane.specs.Floats.{zero as silent, one}
 use Rattle.lines.specs.Lines.{ringLen}
 use Rattle.slots.specs.Engine.{setupCheckOf}
-use Rattle.voices.specs.Calls.{targetsWidth, recordWidth, fine, check, _then_, Bank, Block, callBlock, Answer, refusedCall, kept, rendered, Run, openOf, blockOf, openVerdict, verdict, call, cursorAfter}
+use Rattle.voices.specs.Calls.{targetsWidth, recordWidth, fine, check, _then_, Bank, Block, callBlock, Answer, kept, rendered, Run, openOf, blockOf, openVerdict, verdict, cursorAfter}
 use Rattle.voices.specs.Accepted.{Lengths}
 use Rattle.bank.specs.declared.Setup.{Setup}
 use Rattle.bank.specs.declared.Answer.{Answer as CodeAnswer}
 use Rattle.bank.specs.declared.Answer.the-variants.{Refused, Kept, Rendered}
 use Rattle.bank.specs.Setup.{soloOf, engine}
-use Rattle.bank.specs.Bank.{answerOf, cursorOf, bankOf, blockFrom, before, after, openBy, OpenDoes, BlockDoes}
+use Rattle.bank.specs.Bank.{answerOf, cursorOf, bankOf, blockFrom, after, openBy, OpenDoes, BlockDoes}
 use Rattle.impulses.specs.Impulse.{rateOf, setupOf, steadyPitch, silence, impulseOf, renderedOf, responseOf}
 use Rattle.impulses.specs.Cells.{ring-fits}
 use Rattle.impulses.proofs.Verdicts.{Accepted, rate-is}

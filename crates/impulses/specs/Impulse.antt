@@ -1,7 +1,7 @@
 -- Impulse (document 01, 'Checked figures'): which request a line makes, what is answered, and the text printed, as lists of bytes. 32 is the
 -- blank, 10 the newline. Definitions only. Assumes nothing.
 use Prim.Native.Nat.{ℕ, _+_, _-_}
-use mathlib.Core.Bool.{Bool, true, false, cond, _&&_}
+use mathlib.Core.Bool.{false, cond, _&&_}
 use mathlib.Core.List.{List, [], _∷_, _++_}
 use lib.Dec.{ltb, leb, eqb}
 use lib.ListN.{length, take, replicate}
@@ -10,7 +10,7 @@ use Rattle.lane.specs.Floats.{whole, zero, one}
 use Rattle.lines.specs.Lines.{ringLen}
 use Rattle.pole_zero.specs.PoleZero.{defaultDesign, tableOf}
 use Rattle.slots.specs.Engine.{within, setupCheckOf}
-use Rattle.voices.specs.Calls.{Check, fine, refused, Block, Bank, leastFrames, mostFrames, targetsWidth, recordWidth, openOf, blockOf}
+use Rattle.voices.specs.Calls.{Check, fine, refused, leastFrames, mostFrames, targetsWidth, recordWidth, openOf, blockOf}
 use Rattle.bank.specs.declared.Setup.{Setup}
 use Rattle.bank.specs.Setup.{soloOf, engine}
 use Rattle.bank.specs.Bank.{bankOf, blockFrom}

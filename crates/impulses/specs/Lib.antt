@@ -1,2 +1,4 @@
-pub mod Impulse
 pub mod Cells
+pub mod Example
+pub mod Impulse
+pub mod Prefix

@@ -1,5 +1,5 @@
 -- `put_answer` meets its contract: by the verdict. Assumes nothing.
-use mathlib.Core.Path.{_≡_, sym, _∙_}
+use mathlib.Core.Path.{sym, _∙_}
 use Rattle.impulses.specs.Impulse.{answerText}
 use borrow.Author.Needs.{needs}
 use Rattle.impulses.proofs.put_answer.Statement.{statement}

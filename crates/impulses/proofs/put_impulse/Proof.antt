@@ -1,5 +1,5 @@
 -- `put_impulse` meets its contract: by the request. The position ends within the buffer, since it begins there. Assumes nothing.
-use mathlib.Core.Path.{_≡_, sym, _∙_}
+use mathlib.Core.Path.{sym, _∙_}
 use native.Mathlib.Omega.{arith}
 use Rattle.impulses.specs.Impulse.{answerText, impulseText}
 use Rattle.impulses.proofs.Writing.{puts-within}

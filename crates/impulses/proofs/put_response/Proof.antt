@@ -7,9 +7,8 @@ use mathlib.Core.List.{List}
 use denote.Ref.{now}
 use lib.ListN.{length, take, drop}
 use lib.Ieee.{Float}
-use Rattle.lines.specs.Lines.{ringLen}
 use Rattle.text.specs.Text.{buffer, puts}
-use Rattle.impulses.specs.Impulse.{verdictOf, samplesText, responseOf}
+use Rattle.impulses.specs.Impulse.{verdictOf, samplesText}
 use Rattle.impulses.proofs.Verdicts.{Accepted, accepted}
 use Rattle.impulses.proofs.Rendering.{part-length, part-within, part-again, len-is, len-fits, response-is}
 use borrow.Author.Needs.{needs}

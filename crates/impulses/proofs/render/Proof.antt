@@ -1,5 +1,4 @@
 -- `render` meets its contract: the promises of `open` and `block`, whose checks the verdict has passed. Assumes nothing.
-use mathlib.Core.Path.{_≡_}
 use Rattle.impulses.proofs.Verdicts.{accepted}
 use Rattle.impulses.proofs.Rendering.{rendered-is}
 use borrow.Author.Needs.{needs}

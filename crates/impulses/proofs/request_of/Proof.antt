@@ -1,10 +1,9 @@
 -- `request_of` meets its contract: the line is the input up to its end. Assumes nothing.
-use mathlib.Core.Path.{_≡_, sym, ap, _∙_}
+use mathlib.Core.Path.{ap, _∙_}
 use Prim.Native.Nat.{ℕ, _≤_}
 use native.Mathlib.Omega.{arith}
 use denote.Ref.{now}
 use lib.ListN.{length, take, length-take}
-use Rattle.text.specs.Text.{lineEnd}
 use Rattle.impulses.specs.Impulse.{lineRequest, requestOf}
 use Rattle.impulses.proofs.Reading.{line-end-within}
 use borrow.Author.Needs.{needs}

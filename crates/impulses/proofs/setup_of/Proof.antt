@@ -1,5 +1,4 @@
 -- `setup_of` meets its contract: field by field. Assumes nothing.
-use mathlib.Core.Path.{_∙_}
 use lib.Ieee.{ofBits, round}
 use lib.Ieee.{ofInt}
 use Rattle.impulses.specs.Impulse.{setupOf}
