@@ -24,6 +24,11 @@ combCoefficients pitch p =
       knee = one ⊘ p .«inv_knee»;
     }
 
+-- the same from the two delays
+unfoldable pub combWith : Float → Float → Settings → Comb2
+combWith first second p =
+    record { first = first; second = second; feedback = p .resonance ⊗ decimal 98 100; «inv_knee» = p .«inv_knee»; knee = one ⊘ p .«inv_knee» }
+
 -- what the loop writes, from the two taps read
 unfoldable pub combLoop : Comb2 → Float → Float → Float → Float
 combLoop c first second x =

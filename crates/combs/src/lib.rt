@@ -5,7 +5,7 @@ ghost use mathlib.Core.Bool.{true};
 ghost use lib.ListN.{length};
 ghost use Rattle.parts.specs.Parts.{piece, patch};
 ghost use Rattle.lines.specs.Lines.{isView};
-ghost use Rattle.combs.specs.Combs.{combCoefficients, combLoop, combStep};
+ghost use Rattle.combs.specs.Combs.{combCoefficients, combWith, combLoop, combStep};
 use extended::Settings;
 use filter::Pitch;
 
@@ -31,6 +31,19 @@ pub fn comb_coefficients(pitch: Pitch, p: Settings) -> Comb2
     Comb2 {
         first: 1.0 / ratio,
         second: 1.0 / (ratio * lane::exp2(p.character * COMB_OCTAVES)),
+        feedback: p.resonance * COMB_FEEDBACK_MAX,
+        inv_knee: p.inv_knee,
+        knee: 1.0 / p.inv_knee,
+    }
+}
+
+// From what comb_coefficients gave at the pitch and the character.
+pub fn comb_with(first: f32, second: f32, p: Settings) -> Comb2
+    ensures { λ r. ⌜ r ≡ combWith first second p ⌝ }
+{
+    Comb2 {
+        first: first,
+        second: second,
         feedback: p.resonance * COMB_FEEDBACK_MAX,
         inv_knee: p.inv_knee,
         knee: 1.0 / p.inv_knee,

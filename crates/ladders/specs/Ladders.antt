@@ -47,6 +47,10 @@ unfoldable pub transistorCoefficients : Pitch → Settings → TransistorLadder
 transistorCoefficients pitch p =
     record { g = gainOf pitch (p .«ref_over_rate»); k = p .resonance ⊗ ladderMax; «inv_knee» = p .«inv_knee» }
 
+-- the same from the pitch's gain
+unfoldable pub transistorWith : Float → Settings → TransistorLadder
+transistorWith g p = record { g = g; k = p .resonance ⊗ ladderMax; «inv_knee» = p .«inv_knee» }
+
 -- a stage's gain, with TRANSISTOR_KNEE = 4
 unfoldable pub stageGain : Float → Float → Float
 stageGain g s =
@@ -91,6 +95,15 @@ drivenCoefficients pitch p =
       full = softClip d;
     }
 
+-- the same from what follows from the pitch and the character alone
+unfoldable pub drivenWith : Float → Float → Float → Settings → DrivenLadder
+drivenWith g drive full p =
+    record {
+      ladder = record { g = g; k = p .resonance ⊗ ladderMax; «inv_knee» = p .«inv_knee» ⊗ whole 4 };
+      drive = drive;
+      full = full;
+    }
+
 unfoldable pub drivenStep : DrivenLadder → List Float → Float → Ticked
 drivenStep c state x = transistorStep (c .ladder) state (softClip (x ⊗ c .drive) ⊘ c .full)
 
@@ -131,6 +144,15 @@ unfoldable pub cleanCoefficients : Pitch → Settings → DiodeLadder
 cleanCoefficients pitch p =
     diodeRows (gainOf pitch (p .«ref_over_rate») ⊗ (one ⊘ diodeW)) (p .resonance ⊗ (diodeK ⊗ diodeOvershoot)) (p .«inv_knee»)
 
+-- the same from the rows of the pitch's gain
+unfoldable pub acidWith : (g e r1 a1 r2 a2 r3 : Float) → Settings → DiodeLadder
+acidWith g e r1 a1 r2 a2 r3 p =
+    record { g = g; e = e; r1 = r1; a1 = a1; r2 = r2; a2 = a2; r3 = r3; k = p .resonance ⊗ (diodeK ⊗ diodeOvershoot); «inv_knee» = p .«inv_knee» ⊗ two }
+
+unfoldable pub cleanWith : (g e r1 a1 r2 a2 r3 : Float) → Settings → DiodeLadder
+cleanWith g e r1 a1 r2 a2 r3 p =
+    record { g = g; e = e; r1 = r1; a1 = a1; r2 = r2; a2 = a2; r3 = r3; k = p .resonance ⊗ (diodeK ⊗ diodeOvershoot); «inv_knee» = p .«inv_knee» }
+
 -- row by row, each stage as a × the next + b + d × y4
 unfoldable pub diodeSolve : DiodeLadder → Four → Float → Float → Four
 diodeSolve c s k input =
@@ -170,6 +192,10 @@ expanderCoefficients pitch p =
     let v = g ⊘ (one ⊕ g) in
     let v2 = v ⊗ v in
     record { gg = v; h = one ⊖ v; gg4 = v2 ⊗ v2; k = p .resonance ⊗ ladderMax; «inv_knee» = p .«inv_knee» }
+
+-- the same from what follows from the pitch alone
+unfoldable pub expanderWith : Float → Float → Float → Settings → Expander
+expanderWith gg h gg4 p = record { gg = gg; h = h; gg4 = gg4; k = p .resonance ⊗ ladderMax; «inv_knee» = p .«inv_knee» }
 
 -- the ladder's input and the four stages' outputs
 unfoldable pub expanderSolve : Expander → Four → Float → Float → Five
@@ -254,6 +280,10 @@ k35Coefficients pitch p =
       «inv_knee» = p .«inv_knee» ⊗ whole 3;
       w = unitOf ((p .character ⊖ k35Switch0) ⊗ (one ⊘ (k35Switch1 ⊖ k35Switch0)));
     }
+
+-- the same from what follows from the pitch and the character alone
+unfoldable pub k35With : Float → Float → Float → Settings → K35
+k35With gg h w p = record { gg = gg; h = h; base = p .resonance ⊗ k35Max; «inv_knee» = p .«inv_knee» ⊗ whole 3; w = w }
 
 -- den_of
 unfoldable pub k35Den : K35 → Float → Float

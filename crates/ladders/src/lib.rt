@@ -1,7 +1,7 @@
 // The transistor, diode and expander ladders and the K35. Each has what follows from the pitch and the settings alone, in a struct
 // of its name, and the step over the input and the states. `t` is the root's table.
 ghost use mathlib.Core.Path.{_≡_};
-ghost use Rattle.ladders.specs.Ladders.{stagesOf, ladderStates, transistorCoefficients, stageGain, stageGains, transistorSolve, transistorStep, drivenCoefficients, drivenStep, diodeRows, acidCoefficients, cleanCoefficients, diodeSolve, diodeFeedback, acidStep, cleanStep, expanderCoefficients, expanderSolve, expanderTaps, stages, bandMix, bandStep, tapWeight, multimodeWeights, multimodeMix, multimodeStep, k35Coefficients, k35Den, k35Low, k35High, k35LowOf, k35HighOf, k35States, k35Step};
+ghost use Rattle.ladders.specs.Ladders.{stagesOf, ladderStates, transistorWith, stageGain, stageGains, transistorSolve, transistorStep, drivenCoefficients, drivenWith, drivenStep, diodeRows, acidCoefficients, cleanCoefficients, acidWith, cleanWith, diodeSolve, diodeFeedback, acidStep, cleanStep, expanderCoefficients, expanderWith, expanderSolve, expanderTaps, stages, bandMix, bandStep, tapWeight, multimodeWeights, multimodeMix, multimodeStep, k35Coefficients, k35With, k35Den, k35Low, k35High, k35LowOf, k35HighOf, k35States, k35Step};
 use extended::Settings;
 use filter::Pitch;
 
@@ -50,12 +50,12 @@ pub struct TransistorLadder {
 // The stages' knee: each stage's gain falls as 1 / √(1 + (state / knee)²).
 const TRANSISTOR_KNEE: f32 = 4.0;
 
-pub fn transistor_coefficients(pitch: Pitch, p: Settings) -> TransistorLadder
-    ensures { λ r. ⌜ r ≡ transistorCoefficients pitch p ⌝ }
+// From the pitch's gain.
+pub fn transistor_with(g: f32, p: Settings) -> TransistorLadder
+    ensures { λ r. ⌜ r ≡ transistorWith g p ⌝ }
 {
-    let reference = p.ref_over_rate;
     TransistorLadder {
-        g: filter::gain(pitch, reference),
+        g: g,
         k: p.resonance * LADDER_MAX,
         inv_knee: p.inv_knee,
     }
@@ -136,6 +136,21 @@ pub fn driven_coefficients(pitch: Pitch, p: Settings) -> DrivenLadder
         },
         drive: drive,
         full: lane::soft_clip(drive),
+    }
+}
+
+// From what driven_coefficients gave at the pitch and the character.
+pub fn driven_with(g: f32, drive: f32, full: f32, p: Settings) -> DrivenLadder
+    ensures { λ r. ⌜ r ≡ drivenWith g drive full p ⌝ }
+{
+    DrivenLadder {
+        ladder: TransistorLadder {
+            g: g,
+            k: p.resonance * LADDER_MAX,
+            inv_knee: p.inv_knee * DRIVEN_KNEE,
+        },
+        drive: drive,
+        full: full,
     }
 }
 
@@ -222,6 +237,57 @@ pub fn clean_coefficients(pitch: Pitch, p: Settings) -> DiodeLadder
     )
 }
 
+// The same from the rows that were worked out at the pitch.
+pub fn acid_with(
+    g: f32,
+    e: f32,
+    r1: f32,
+    a1: f32,
+    r2: f32,
+    a2: f32,
+    r3: f32,
+    p: Settings,
+) -> DiodeLadder
+    ensures { λ r. ⌜ r ≡ acidWith g e r1 a1 r2 a2 r3 p ⌝ }
+{
+    DiodeLadder {
+        g: g,
+        e: e,
+        r1: r1,
+        a1: a1,
+        r2: r2,
+        a2: a2,
+        r3: r3,
+        k: p.resonance * (DIODE_K * DIODE_OVERSHOOT),
+        inv_knee: p.inv_knee * ACID_KNEE,
+    }
+}
+
+pub fn clean_with(
+    g: f32,
+    e: f32,
+    r1: f32,
+    a1: f32,
+    r2: f32,
+    a2: f32,
+    r3: f32,
+    p: Settings,
+) -> DiodeLadder
+    ensures { λ r. ⌜ r ≡ cleanWith g e r1 a1 r2 a2 r3 p ⌝ }
+{
+    DiodeLadder {
+        g: g,
+        e: e,
+        r1: r1,
+        a1: a1,
+        r2: r2,
+        a2: a2,
+        r3: r3,
+        k: p.resonance * (DIODE_K * DIODE_OVERSHOOT),
+        inv_knee: p.inv_knee,
+    }
+}
+
 fn diode_solve(c: DiodeLadder, s: Four, k: f32, input: f32) -> Four
     ensures { λ r. ⌜ r ≡ diodeSolve c s k input ⌝ }
 {
@@ -283,6 +349,19 @@ pub fn expander_coefficients(pitch: Pitch, p: Settings) -> Expander
         gg: gg,
         h: 1.0 - gg,
         gg4: gg2 * gg2,
+        k: p.resonance * LADDER_MAX,
+        inv_knee: p.inv_knee,
+    }
+}
+
+// From what expander_coefficients gave at the pitch.
+pub fn expander_with(gg: f32, h: f32, gg4: f32, p: Settings) -> Expander
+    ensures { λ r. ⌜ r ≡ expanderWith gg h gg4 p ⌝ }
+{
+    Expander {
+        gg: gg,
+        h: h,
+        gg4: gg4,
         k: p.resonance * LADDER_MAX,
         inv_knee: p.inv_knee,
     }
@@ -400,6 +479,19 @@ pub fn k35_coefficients(pitch: Pitch, p: Settings) -> K35
         base: p.resonance * K35_MAX,
         inv_knee: p.inv_knee * K35_KNEE,
         w: extended::unit((p.character - K35_SWITCH_0) * (1.0 / (K35_SWITCH_1 - K35_SWITCH_0))),
+    }
+}
+
+// From what k35_coefficients gave at the pitch and the character.
+pub fn k35_with(gg: f32, h: f32, w: f32, p: Settings) -> K35
+    ensures { λ r. ⌜ r ≡ k35With gg h w p ⌝ }
+{
+    K35 {
+        gg: gg,
+        h: h,
+        base: p.resonance * K35_MAX,
+        inv_knee: p.inv_knee * K35_KNEE,
+        w: w,
     }
 }
 

@@ -1,3 +1,4 @@
 pub mod Kernels
 pub mod Run
+pub mod Tuning
 pub mod Laws

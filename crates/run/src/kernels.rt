@@ -5,16 +5,63 @@ ghost use lib.ListN.{length};
 ghost use Rattle.parts.specs.Parts.{piece};
 ghost use Rattle.lines.specs.Lines.{isView};
 ghost use Rattle.run.specs.Kernels.{kernelOf, KernelLeaves};
+ghost use Rattle.run.specs.Tuning.{tuningOf, acidFrom, cleanFrom, expanderFrom, weightsFrom};
 use extended::Settings;
 use filter::Pitch;
+use ladders::DiodeLadder;
+use ladders::Expander;
+use ladders::Five;
 
-// One tick of the structure `code`. `roots` is the root's table.
+fn acid_of(tuning: &[f32; 10], p: Settings) -> DiodeLadder
+    ensures { λ r. ⌜ r ≡ acidFrom (now (tuning .entry)) p ⌝ }
+{
+    ladders::acid_with(
+        tuning[0],
+        tuning[1],
+        tuning[2],
+        tuning[3],
+        tuning[4],
+        tuning[5],
+        tuning[6],
+        p,
+    )
+}
+
+fn clean_of(tuning: &[f32; 10], p: Settings) -> DiodeLadder
+    ensures { λ r. ⌜ r ≡ cleanFrom (now (tuning .entry)) p ⌝ }
+{
+    ladders::clean_with(
+        tuning[0],
+        tuning[1],
+        tuning[2],
+        tuning[3],
+        tuning[4],
+        tuning[5],
+        tuning[6],
+        p,
+    )
+}
+
+fn expander_of(tuning: &[f32; 10], p: Settings) -> Expander
+    ensures { λ r. ⌜ r ≡ expanderFrom (now (tuning .entry)) p ⌝ }
+{
+    ladders::expander_with(tuning[0], tuning[1], tuning[2], p)
+}
+
+fn weights_of(tuning: &[f32; 10]) -> Five
+    ensures { λ r. ⌜ r ≡ weightsFrom (now (tuning .entry)) ⌝ }
+{
+    Five(tuning[3], tuning[4], tuning[5], tuning[6], tuning[7])
+}
+
+// One tick of the structure `code`. `roots` is the root's table, `tuning` the numbers kept at this pitch and character.
 pub fn kernel(
     code: u32,
     sections: &[f32; 160],
     active: u32,
     gain: f32,
     roots: &[u8; 1024],
+    tuning: &[f32; 10],
     state: &mut [f32; 20],
     delay: &mut [f32],
     len: usize,
@@ -24,35 +71,43 @@ pub fn kernel(
     p: Settings,
     x: f32,
 ) -> f32
-    requires { ⌜ isView len slot (length (now delay)) ≡ true ⌝ }
+    requires { ⌜ (isView len slot (length (now delay)) ≡ true) × (now tuning ≡ tuningOf code pitch p) ⌝ }
     ensures { λ r. ⌜ KernelLeaves len slot (now (delay .entry)) (kernelOf code (now (sections .entry)) active gain len cursor pitch p (now (state .entry)) (piece len slot (now (delay .entry))) x) r (now (state .exit)) (now (delay .exit)) ⌝ }
 {
     match code {
-        1 => sweeps::buzz_step(sweeps::buzz_coefficients(pitch, p), state, x, roots),
-        2 => sweeps::dj_step(sweeps::dj_coefficients(pitch, p), state, x),
-        3 => sweeps::diffuser_step(sweeps::diffuser_coefficients(pitch, p), state, x),
-        4 => ladders::transistor_step(ladders::transistor_coefficients(pitch, p), state, x, roots),
-        5 => ladders::acid_step(ladders::acid_coefficients(pitch, p), state, x, roots),
-        6 => ladders::clean_step(ladders::clean_coefficients(pitch, p), state, x, roots),
-        7 => ladders::driven_step(ladders::driven_coefficients(pitch, p), state, x, roots),
+        1 => sweeps::buzz_step(sweeps::buzz_with(tuning[0], p), state, x, roots),
+        2 => sweeps::dj_step(
+            sweeps::dj_with(tuning[0], tuning[1], tuning[2], p),
+            state,
+            x,
+        ),
+        3 => sweeps::diffuser_step(sweeps::diffuser_with(tuning[0], p), state, x),
+        4 => ladders::transistor_step(ladders::transistor_with(tuning[0], p), state, x, roots),
+        5 => ladders::acid_step(acid_of(tuning, p), state, x, roots),
+        6 => ladders::clean_step(clean_of(tuning, p), state, x, roots),
+        7 => ladders::driven_step(
+            ladders::driven_with(tuning[0], tuning[1], tuning[2], p),
+            state,
+            x,
+            roots,
+        ),
         8 => poles::pole_zero_tick(sections, active, gain, state, x, pitch, p),
         9 => combs::comb_step(
-            combs::comb_coefficients(pitch, p),
+            combs::comb_with(tuning[0], tuning[1], p),
             delay,
             len,
             cursor,
             slot,
             x,
         ),
-        10 => ladders::multimode_step(
-            ladders::expander_coefficients(pitch, p),
-            ladders::multimode_weights(p.character),
+        10 => ladders::multimode_step(expander_of(tuning, p), weights_of(tuning), state, x, roots),
+        11 => ladders::band_step(expander_of(tuning, p), state, x, roots),
+        12 => ladders::k35_step(
+            ladders::k35_with(tuning[0], tuning[1], tuning[2], p),
             state,
             x,
             roots,
         ),
-        11 => ladders::band_step(ladders::expander_coefficients(pitch, p), state, x, roots),
-        12 => ladders::k35_step(ladders::k35_coefficients(pitch, p), state, x, roots),
         _ => x,
     }
 }

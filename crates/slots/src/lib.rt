@@ -9,6 +9,7 @@ ghost use lib.Seq.{paste};
 ghost use Rattle.parts.specs.Parts.{upto, piece, patch};
 ghost use Rattle.extended.specs.Extended.{linesMark};
 ghost use Rattle.voices.specs.Calls.{positiveZero, targetsWidth, recordWidth, statesWidth, frameOf, slotOf, blockOf};
+ghost use Rattle.run.specs.Tuning.{Kept};
 ghost use Rattle.slots.specs.Slots.{engineAt, blockOn, blockAt, bankAt, blockRun, slotRun, Worked, Placed, Buffers, Lists, channelAt};
 use filter::Pitch;
 use run::Constants;
@@ -162,11 +163,12 @@ fn steering_at(steered: bool, list: &[f32], i: usize) -> f32
     0.0
 }
 
-// One frame of a slot, with the slot's record in hand.
+// One frame of a slot, with the slot's record in hand. `tuning` holds the numbers kept from frame to frame.
 fn frame(
     e: Prepared,
     sections: &[f32; 160],
     roots: &[u8; 1024],
+    tuning: &mut [f32; 10],
     targets: &[f32; 10],
     params: &mut [f32; 10],
     state: &mut [f32; 20],
@@ -178,8 +180,8 @@ fn frame(
     p: Place,
     f: usize,
 )
-    requires { ⌜ (Worked e) × (Placed e p) × (Buffers e (now pitch) (now x) (now y) (now delay) (now audio)) × (f < e .frames) × (length (now params) ≡ 10) ⌝ }
-    ensures { λ _. ⌜ (slotRun (now (params .exit)) (now (state .exit)) (now (delay .exit)) (now (audio .exit)) ≡ frameOf (engineAt e (now (sections .entry))) (e .voices) (blockAt e (now (pitch .entry)) (now (x .entry)) (now (y .entry))) (now (targets .entry)) (e .cursor) (p .channel) (p .voice) f (slotRun (now (params .entry)) (now (state .entry)) (now (delay .entry)) (now (audio .entry)))) × (length (now (params .exit)) ≡ 10) ⌝ }
+    requires { ⌜ (Worked e) × (Placed e p) × (Buffers e (now pitch) (now x) (now y) (now delay) (now audio)) × (f < e .frames) × (length (now params) ≡ 10) × (Kept (e .code) (e .k .«ref_over_rate») (now tuning)) ⌝ }
+    ensures { λ _. ⌜ (slotRun (now (params .exit)) (now (state .exit)) (now (delay .exit)) (now (audio .exit)) ≡ frameOf (engineAt e (now (sections .entry))) (e .voices) (blockAt e (now (pitch .entry)) (now (x .entry)) (now (y .entry))) (now (targets .entry)) (e .cursor) (p .channel) (p .voice) f (slotRun (now (params .entry)) (now (state .entry)) (now (delay .entry)) (now (audio .entry)))) × (length (now (params .exit)) ≡ 10) × (Kept (e .code) (e .k .«ref_over_rate») (now (tuning .exit))) ⌝ }
 {
     let at = place_at(f, e.slots, p.slot, e.frames, audio.len());
     let from = place_at(f, e.voices, p.voice, e.frames, pitch.len());
@@ -196,6 +198,7 @@ fn frame(
         e.active,
         e.gain,
         roots,
+        tuning,
         p.sign,
         targets,
         params,
@@ -218,6 +221,7 @@ fn run_frames(
     e: Prepared,
     sections: &[f32; 160],
     roots: &[u8; 1024],
+    tuning: &mut [f32; 10],
     targets: &[f32; 10],
     params: &mut [f32; 10],
     state: &mut [f32; 20],
@@ -228,7 +232,7 @@ fn run_frames(
     audio: &mut [f32],
     p: Place,
 )
-    requires { ⌜ (Worked e) × (Placed e p) × (Buffers e (now pitch) (now x) (now y) (now delay) (now audio)) × (length (now params) ≡ 10) ⌝ }
+    requires { ⌜ (Worked e) × (Placed e p) × (Buffers e (now pitch) (now x) (now y) (now delay) (now audio)) × (length (now params) ≡ 10) × (Kept (e .code) (e .k .«ref_over_rate») (now tuning)) ⌝ }
     ensures { λ _. ⌜ slotRun (now (params .exit)) (now (state .exit)) (now (delay .exit)) (now (audio .exit)) ≡ upto (frameOf (engineAt e (now (sections .entry))) (e .voices) (blockAt e (now (pitch .entry)) (now (x .entry)) (now (y .entry))) (now (targets .entry)) (e .cursor) (p .channel) (p .voice)) (e .frames) (slotRun (now (params .entry)) (now (state .entry)) (now (delay .entry)) (now (audio .entry))) ⌝ }
 {
     let frames = e.frames;
@@ -238,6 +242,7 @@ fn run_frames(
             e,
             sections,
             roots,
+            tuning,
             targets,
             params,
             state,
@@ -283,10 +288,12 @@ fn run_slot(
     let goals = load_ten(targets, from);
     let mut params = load_ten(records, at);
     let mut state = load_states(records, at + 10);
+    let mut tuning = [0.0f32 / 0.0; 10];
     run_frames(
         e,
         sections,
         roots,
+        &mut tuning,
         &goals,
         &mut params,
         &mut state,

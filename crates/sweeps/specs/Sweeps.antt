@@ -38,6 +38,17 @@ buzzCoefficients pitch p =
       «w_high» = minOf (p .character ⊗ two) one;
     }
 
+-- the same from the pitch's gain
+unfoldable pub buzzWith : Float → Settings → BuzzMorph
+buzzWith g p =
+    record {
+      g = g;
+      k = svfK kButterworth2 negInfinity (p .resonance);
+      «inv_knee» = p .«inv_knee» ⊗ whole 3;
+      «w_low» = minOf ((one ⊖ p .character) ⊗ two) one;
+      «w_high» = minOf (p .character ⊗ two) one;
+    }
+
 unfoldable pub buzzMix : BuzzMorph → Float → Float → Stage → Float
 buzzMix c v k s =
     let high = v ⊖ k ⊗ s .band ⊖ s .low in
@@ -109,6 +120,10 @@ djCoefficients pitch p =
       wet = minOf (v ⊗ (one ⊘ djFade)) one;
     }
 
+-- the same from what follows from the pitch alone
+unfoldable pub djWith : Float → Float → Float → Settings → DjSweep
+djWith g lowSide wet p = record { g = g; k = djK (p .resonance); «low_side» = lowSide; wet = wet }
+
 unfoldable pub djMix : DjSweep → Float → Stage → Float
 djMix c x s =
     let high = x ⊖ c .k ⊗ s .band ⊖ s .low in
@@ -136,6 +151,12 @@ diffuserCoefficients pitch p =
     let k = diffuserK (p .resonance) in
     let n = p .character ⊗ whole 7 in
     record { g = gainOf pitch (p .«ref_over_rate»); k = k; k2 = k ⊕ k; n = n }
+
+-- the same from the pitch's gain
+unfoldable pub diffuserWith : Float → Settings → Diffuser
+diffuserWith g p =
+    let k = diffuserK (p .resonance) in
+    record { g = g; k = k; k2 = k ⊕ k; n = p .character ⊗ whole 7 }
 
 -- stage j, on the signal and the output so far
 unfoldable pub diffuseStage : Diffuser → ℕ → Diffused → Diffused

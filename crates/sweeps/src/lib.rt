@@ -2,7 +2,7 @@
 // alone, in a struct of its name, and the step over the input and the states.
 ghost use mathlib.Core.Path.{_≡_};
 ghost use Prim.Native.Nat.{_<_};
-ghost use Rattle.sweeps.specs.Sweeps.{buzzCoefficients, buzzMix, buzzStep, djDistance, djDepth, djPitch, djK, djCoefficients, djMix, djStep, diffuserK, diffuserWeight, diffuserCoefficients, diffuseStage, diffuserStep};
+ghost use Rattle.sweeps.specs.Sweeps.{buzzWith, buzzMix, buzzStep, djDistance, djDepth, djPitch, djK, djCoefficients, djWith, djMix, djStep, diffuserK, diffuserWeight, diffuserWith, diffuseStage, diffuserStep};
 use extended::Settings;
 use filter::Pitch;
 use filter::Stage;
@@ -22,12 +22,12 @@ pub struct BuzzMorph {
     pub w_high: f32,
 }
 
-pub fn buzz_coefficients(pitch: Pitch, p: Settings) -> BuzzMorph
-    ensures { λ r. ⌜ r ≡ buzzCoefficients pitch p ⌝ }
+// From the pitch's gain.
+pub fn buzz_with(g: f32, p: Settings) -> BuzzMorph
+    ensures { λ r. ⌜ r ≡ buzzWith g p ⌝ }
 {
-    let reference = p.ref_over_rate;
     BuzzMorph {
-        g: filter::gain(pitch, reference),
+        g: g,
         k: filter::svf_k(K_BUTTERWORTH_2, -1.0 / 0.0, p.resonance),
         inv_knee: p.inv_knee * BUZZ_KNEE,
         w_low: lane::min((1.0 - p.character) * 2.0, 1.0),
@@ -129,6 +129,18 @@ pub fn dj_coefficients(pitch: Pitch, p: Settings) -> DjSweep
     }
 }
 
+// From what dj_coefficients gave at the pitch.
+pub fn dj_with(g: f32, low_side: f32, wet: f32, p: Settings) -> DjSweep
+    ensures { λ r. ⌜ r ≡ djWith g «low_side» wet p ⌝ }
+{
+    DjSweep {
+        g: g,
+        k: dj_k(p.resonance),
+        low_side: low_side,
+        wet: wet,
+    }
+}
+
 fn dj_mix(c: DjSweep, x: f32, s: Stage) -> f32
     ensures { λ r. ⌜ r ≡ djMix c x s ⌝ }
 {
@@ -166,13 +178,13 @@ fn diffuser_k(r: f32) -> f32
     r * (DIFFUSER_K_1 - DIFFUSER_K_0) + DIFFUSER_K_0
 }
 
-pub fn diffuser_coefficients(pitch: Pitch, p: Settings) -> Diffuser
-    ensures { λ r. ⌜ r ≡ diffuserCoefficients pitch p ⌝ }
+// From the pitch's gain.
+pub fn diffuser_with(g: f32, p: Settings) -> Diffuser
+    ensures { λ r. ⌜ r ≡ diffuserWith g p ⌝ }
 {
-    let reference = p.ref_over_rate;
     let k = diffuser_k(p.resonance);
     Diffuser {
-        g: filter::gain(pitch, reference),
+        g: g,
         k: k,
         k2: k + k,
         n: p.character * 7.0,

@@ -1,19 +1,42 @@
 -- `run::kernel_tick` meets its contract: each call gives its part of the definition.
 use borrow.Author.Needs.{needs}
+use mathlib.Core.Path.{sym, ap, _∙_}
+use denote.Ref.{now}
+use Rattle.filter.specs.declared.Pitch.{Pitch}
+use Rattle.extended.specs.declared.Settings.{Settings}
+use Rattle.run.specs.declared.Place.{Place}
 use Rattle.run.specs.Run.{kernelTick}
+use Rattle.run.specs.Tuning.{tuningOf}
+use Rattle.run.proofs.Keeping.{key-settings, kept}
 use Rattle.run.proofs.kernel_tick.Statement.{statement}
 use Rattle.run.proofs.kernel_tick.Tie as tie
+
+kernel-requires : tie.Need-kernel-requires
+kernel-requires c κs =
+    let settings = c .before .before .before .before .before .before .before in
+    let a = c .before .before .before .before .before .before .before .before .before .before .before .before .before .args in
+    let lagged : Place = c .before .before .before .before .before .before .before .before .before .lag .result in
+    let pitch : Pitch = record { 0 = lagged .pitch } in (
+      c .before .before .before .before .before .before .before .before .before .before .before .before .before .pre .0,
+      c .before .before .before .retune .ensures
+          ∙ key-settings (a .code) pitch (a .k) (now (a .params)) lagged
+          ∙ ap (λ (p : Settings). tuningOf (a .code) pitch p) (sym (settings .settings-of .ensures)),
+    )
 
 returns : tie.Need-returns
 unfolding kernelTick
 returns c =
-    let settings = c .before .before .before .before .before in
-    let lag = settings .before .before .lag .ensures in
-    rw (← lag .0, ← lag .1, ← settings .before .drive .ensures, ← settings .settings-of .ensures) (c .before .before .kernel .ensures)
+    let settings = c .before .before .before .before .before .before .before .before .before .before in
+    let a = c .before .before .before .before .before .before .before .before .before .before .before .before .before .before .before .before .args in
+    let lag = settings .before .before .lag .ensures in (
+      rw (← lag .0, ← lag .1, ← settings .before .drive .ensures, ← settings .settings-of .ensures) (c .before .before .kernel .ensures),
+      kept (a .code) (a .k .«ref_over_rate») _ _ _ (c .before .before .before .before .before .before .retune .ensures),
+    )
 
 pub kernel-tick-spec : {M : Type 1} → statement M
 kernel-tick-spec =
     tie.close
     (tie.spec
-    (λ c. search needs) (λ c κs. tt) (λ c κs. tt) (λ c κs. tt)
-    (λ c κs. c .before .before .before .before .before .before .before .before .pre) (λ c. search needs) returns)
+    (λ c. search needs) (λ c κs. tt) (λ c κs. tt) (λ c κs. tt) (λ c. search needs)
+    (λ c κs. c .before .before .before .before .before .before .before .before .before .pre .1) kernel-requires
+    (λ c. search needs) returns)
