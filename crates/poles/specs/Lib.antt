@@ -1,1 +1,2 @@
 pub mod Poles
+pub mod Numbers

@@ -2,7 +2,8 @@
 // blended at this sample's X and Y, then the overall gain.
 ghost use mathlib.Core.Path.{_≡_};
 ghost use Prim.Native.Nat.{_<_, min};
-ghost use Rattle.poles.specs.Poles.{blendOf, poleSection, poleCoefficients, poleMix, poleStage, poleSeries, poleStep};
+ghost use Rattle.poles.specs.Poles.{blendOf, poleSection, poleMix, poleStage, poleStep};
+ghost use Rattle.poles.specs.Numbers.{running, poleNumbers, sectionAt};
 ghost use Rattle.extended.specs.Extended.{ticked};
 use extended::Settings;
 use filter::Pitch;
@@ -78,32 +79,129 @@ fn sections_run(active: u32) -> usize
     8
 }
 
-// State: 2j and 2j + 1 section j.
-pub fn pole_zero_tick(
+// Section j's numbers, if it is among the n that run.
+fn running_section(
     sections: &[f32; 160],
+    x: f32,
+    y: f32,
+    transpose: f32,
+    reference: Ratio,
+    n: usize,
+    j: usize,
+) -> PoleSection
+    requires { ⌜ j < 8 ⌝ }
+    ensures { λ r. ⌜ r ≡ running n (poleSection (now (sections .entry)) x y transpose reference) j ⌝ }
+{
+    if j < n {
+        return pole_section(sections, x, y, transpose, reference, j);
+    }
+    PoleSection {
+        g: 0.0,
+        k: 0.0,
+        high: 0.0,
+        band: 0.0,
+        low: 0.0,
+    }
+}
+
+// The numbers of all sections at a pitch, X and Y: five a section, then the pitch, X and Y.
+pub fn pole_numbers(
+    sections: &[f32; 160],
+    active: u32,
+    reference: Ratio,
+    pitch: Pitch,
+    x: f32,
+    y: f32,
+) -> [f32; 43]
+    ensures { λ r. ⌜ r ≡ poleNumbers (now (sections .entry)) active reference pitch x y ⌝ }
+{
+    let transpose = filter::octaves_of(pitch);
+    let n = sections_run(active);
+    let a = running_section(sections, x, y, transpose, reference, n, 0);
+    let b = running_section(sections, x, y, transpose, reference, n, 1);
+    let c = running_section(sections, x, y, transpose, reference, n, 2);
+    let d = running_section(sections, x, y, transpose, reference, n, 3);
+    let e = running_section(sections, x, y, transpose, reference, n, 4);
+    let f = running_section(sections, x, y, transpose, reference, n, 5);
+    let g = running_section(sections, x, y, transpose, reference, n, 6);
+    let h = running_section(sections, x, y, transpose, reference, n, 7);
+    [
+        a.g,
+        a.k,
+        a.high,
+        a.band,
+        a.low,
+        b.g,
+        b.k,
+        b.high,
+        b.band,
+        b.low,
+        c.g,
+        c.k,
+        c.high,
+        c.band,
+        c.low,
+        d.g,
+        d.k,
+        d.high,
+        d.band,
+        d.low,
+        e.g,
+        e.k,
+        e.high,
+        e.band,
+        e.low,
+        f.g,
+        f.k,
+        f.high,
+        f.band,
+        f.low,
+        g.g,
+        g.k,
+        g.high,
+        g.band,
+        g.low,
+        h.g,
+        h.k,
+        h.high,
+        h.band,
+        h.low,
+        pitch.0,
+        x,
+        y,
+    ]
+}
+
+// Section j of those numbers.
+fn section_at(numbers: &[f32; 43], j: usize) -> PoleSection
+    requires { ⌜ j < 8 ⌝ }
+    ensures { λ r. ⌜ r ≡ sectionAt (now (numbers .entry)) j ⌝ }
+{
+    let at = 5 * j;
+    PoleSection {
+        g: numbers[at],
+        k: numbers[at + 1],
+        high: numbers[at + 2],
+        band: numbers[at + 3],
+        low: numbers[at + 4],
+    }
+}
+
+// State: 2j and 2j + 1 section j.
+pub fn pole_zero_step(
+    numbers: &[f32; 43],
     active: u32,
     gain: f32,
     state: &mut [f32; 20],
     x: f32,
-    pitch: Pitch,
-    p: Settings,
 ) -> f32
-    ensures { λ r. ⌜ ticked r (now (state .exit)) ≡ poleStep (poleCoefficients (now (sections .entry)) pitch p) active gain (now (state .entry)) x ⌝ }
+    ensures { λ r. ⌜ ticked r (now (state .exit)) ≡ poleStep (sectionAt (now (numbers .entry))) active gain (now (state .entry)) x ⌝ }
 {
-    let reference = p.ref_over_rate;
-    let transpose = filter::octaves_of(pitch);
-    let px = p.x;
-    let py = p.y;
     let n = sections_run(active);
     let mut u = x;
     let mut j: usize = 0;
     while j < n {
-        u = pole_stage(
-            pole_section(sections, px, py, transpose, reference, j),
-            state,
-            u,
-            j,
-        );
+        u = pole_stage(section_at(numbers, j), state, u, j);
         j += 1;
     }
     u * gain

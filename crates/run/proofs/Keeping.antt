@@ -11,10 +11,12 @@ use Rattle.extended.specs.declared.Settings.{Settings}
 use Rattle.sweeps.specs.Sweeps.{buzzCoefficients, buzzWith, djCoefficients, djWith, diffuserCoefficients, diffuserWith}
 use Rattle.ladders.specs.Ladders.{transistorCoefficients, transistorWith, diodeRows, acidCoefficients, acidWith, cleanCoefficients, cleanWith, drivenCoefficients, drivenWith, expanderCoefficients, expanderWith, multimodeWeights, k35Coefficients, k35With}
 use Rattle.combs.specs.Combs.{combCoefficients, combWith}
+use Rattle.poles.specs.Poles.{poleCoefficients, poleStep}
+use Rattle.poles.specs.Numbers.{poleNumbers, sectionAt, numbers-step}
 use Rattle.run.specs.declared.Constants.{Constants}
 use Rattle.run.specs.declared.Place.{Place}
 use Rattle.run.specs.Run.{settingsOf}
-use Rattle.run.specs.Tuning.{threeNumbers, djNumbers, diodeNumbers, drivenNumbers, combNumbers, bandNumbers, multimodeNumbers, k35Numbers, numbersOf, tuningOf, acidFrom, cleanFrom, expanderFrom, weightsFrom, keyOf, Kept}
+use Rattle.run.specs.Tuning.{threeNumbers, djNumbers, diodeNumbers, drivenNumbers, combNumbers, bandNumbers, multimodeNumbers, k35Numbers, numbersOf, tuningOf, acidFrom, cleanFrom, expanderFrom, weightsFrom, keyOf, Kept, KeptSections}
 
 module _ (code : ℕ) (t : List Float) (pitch : Pitch) (p : Settings) (e : t ≡ tuningOf code pitch p) where
   at : (n : ℕ) → code ≡ n → t ≡ tuningOf n pitch p
@@ -79,3 +81,25 @@ pub kept : (code : ℕ) (reference : Ratio) (pitch : Pitch) (character : Float) 
 unfolding Kept tuningOf keyOf
 kept code reference pitch character t e h =
     e ∙ (λ i. tuningOf code (record { 0 = getD (sym e i) 8 nan }) (keyOf reference (getD (sym e i) 9 nan)))
+
+pub kept-sections : (sections : List Float) (active : ℕ) (reference : Ratio) (pitch : Pitch) (x y : Float) (t : List Float)
+    → t ≡ poleNumbers sections active reference pitch x y → KeptSections sections active reference t
+unfolding KeptSections poleNumbers
+kept-sections sections active reference pitch x y t e h =
+    e ∙ (λ i. poleNumbers sections active reference (record { 0 = getD (sym e i) 40 nan }) (getD (sym e i) 41 nan) (getD (sym e i) 42 nan))
+
+-- a step on the kept numbers is a step on the sections
+pub sections-step : (code : ℕ) (sections : List Float) (active : ℕ) (gain : Float) (pitch : Pitch) (p : Settings) (t : List Float)
+    → code ≡ 8 → (code ≡ 8 → t ≡ poleNumbers sections active (p .«ref_over_rate») pitch (p .x) (p .y)) → (state : List Float) (v : Float)
+    → poleStep (sectionAt t) active gain state v ≡ poleStep (poleCoefficients sections pitch p) active gain state v
+unfolding poleCoefficients
+sections-step code sections active gain pitch p t key e state v =
+    ap (λ (n : List Float). poleStep (sectionAt n) active gain state v) (e key)
+    ∙ numbers-step sections active (p .«ref_over_rate») pitch (p .x) (p .y) gain state v
+
+-- the sections' numbers follow from the place that the settings have
+pub place-settings : (sections : List Float) (active : ℕ) (pitch : Pitch) (k : Constants) (params : List Float) (at : Place)
+    → poleNumbers sections active (k .«ref_over_rate») pitch (at .x) (at .y)
+    ≡ poleNumbers sections active (settingsOf k params at .«ref_over_rate») pitch (settingsOf k params at .x) (settingsOf k params at .y)
+unfolding settingsOf
+place-settings sections active pitch k params at = refl

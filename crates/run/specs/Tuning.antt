@@ -1,5 +1,6 @@
 -- What a kernel has of the pitch and the character alone, kept from frame to frame: a list of ten numbers, of which the last two
--- are the pitch and the character that the first eight follow from. Definitions only. Assumes nothing.
+-- are the pitch and the character that the first eight follow from. PoleZero has a list of its own, of the pitch, x and y.
+-- Definitions only. Assumes nothing.
 use mathlib.Core.Path.{_≡_}
 use Prim.Native.Nat.{ℕ}
 use mathlib.Core.Bool.{false, cond}
@@ -22,6 +23,7 @@ use Rattle.ladders.specs.declared.K35.{K35}
 use Rattle.ladders.specs.Ladders.{drivenCoefficients, acidCoefficients, cleanCoefficients, expanderCoefficients, multimodeWeights, k35Coefficients, acidWith, cleanWith, expanderWith}
 use Rattle.combs.specs.declared.Comb2.{Comb2}
 use Rattle.combs.specs.Combs.{combCoefficients}
+use Rattle.poles.specs.Numbers.{poleNumbers}
 use Rattle.run.specs.declared.tuning.Numbers.{Numbers}
 
 -- each structure's numbers
@@ -49,7 +51,7 @@ multimodeNumbers c w = record { 0 = c .gg; 1 = c .h; 2 = c .gg4; 3 = w .0; 4 = w
 unfoldable pub k35Numbers : K35 → Numbers
 k35Numbers c = threeNumbers (c .gg) (c .h) (c .w)
 
--- by the structure's code; PoleZero keeps nothing
+-- by the structure's code; PoleZero keeps its sections' numbers apart
 unfoldable pub numbersOf : ℕ → Pitch → Settings → Numbers
 numbersOf code pitch p =
     cond (eqb code 2) (djNumbers (djCoefficients pitch p))
@@ -91,3 +93,8 @@ keyOf reference character =
 unfoldable pub Kept : ℕ → Ratio → List Float → Type 0
 Kept code reference t =
     isNan (getD t 8 nan) ≡ false → t ≡ tuningOf code (record { 0 = getD t 8 nan }) (keyOf reference (getD t 9 nan))
+
+-- PoleZero's kept list: unless its pitch is NaN, its numbers are those of its pitch, x and y
+unfoldable pub KeptSections : (sections : List Float) (active : ℕ) → Ratio → List Float → Type 0
+KeptSections sections active reference t =
+    isNan (getD t 40 nan) ≡ false → t ≡ poleNumbers sections active reference (record { 0 = getD t 40 nan }) (getD t 41 nan) (getD t 42 nan)

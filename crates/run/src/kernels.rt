@@ -5,6 +5,7 @@ ghost use lib.ListN.{length};
 ghost use Rattle.parts.specs.Parts.{piece};
 ghost use Rattle.lines.specs.Lines.{isView};
 ghost use Rattle.run.specs.Kernels.{kernelOf, KernelLeaves};
+ghost use Rattle.poles.specs.Numbers.{poleNumbers};
 ghost use Rattle.run.specs.Tuning.{tuningOf, acidFrom, cleanFrom, expanderFrom, weightsFrom};
 use extended::Settings;
 use filter::Pitch;
@@ -54,7 +55,8 @@ fn weights_of(tuning: &[f32; 10]) -> Five
     Five(tuning[3], tuning[4], tuning[5], tuning[6], tuning[7])
 }
 
-// One tick of the structure `code`. `roots` is the root's table, `tuning` the numbers kept at this pitch and character.
+// One tick of the structure `code`. `roots` is the root's table, `tuning` the numbers kept at this pitch and character, `blended`
+// PoleZero's at this pitch, X and Y.
 pub fn kernel(
     code: u32,
     sections: &[f32; 160],
@@ -62,6 +64,7 @@ pub fn kernel(
     gain: f32,
     roots: &[u8; 1024],
     tuning: &[f32; 10],
+    blended: &[f32; 43],
     state: &mut [f32; 20],
     delay: &mut [f32],
     len: usize,
@@ -71,7 +74,7 @@ pub fn kernel(
     p: Settings,
     x: f32,
 ) -> f32
-    requires { ⌜ (isView len slot (length (now delay)) ≡ true) × (now tuning ≡ tuningOf code pitch p) ⌝ }
+    requires { ⌜ (isView len slot (length (now delay)) ≡ true) × (now tuning ≡ tuningOf code pitch p) × (code ≡ 8 → now blended ≡ poleNumbers (now sections) active (p .«ref_over_rate») pitch (p .x) (p .y)) ⌝ }
     ensures { λ r. ⌜ KernelLeaves len slot (now (delay .entry)) (kernelOf code (now (sections .entry)) active gain len cursor pitch p (now (state .entry)) (piece len slot (now (delay .entry))) x) r (now (state .exit)) (now (delay .exit)) ⌝ }
 {
     match code {
@@ -91,7 +94,7 @@ pub fn kernel(
             x,
             roots,
         ),
-        8 => poles::pole_zero_tick(sections, active, gain, state, x, pitch, p),
+        8 => poles::pole_zero_step(blended, active, gain, state, x),
         9 => combs::comb_step(
             combs::comb_with(tuning[0], tuning[1], p),
             delay,

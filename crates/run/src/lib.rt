@@ -6,7 +6,7 @@ ghost use lib.ListN.{length};
 ghost use Rattle.parts.specs.Parts.{piece, patch};
 ghost use Rattle.lines.specs.Lines.{isView};
 ghost use Rattle.run.specs.Kernels.{kernelOf, KernelLeaves};
-ghost use Rattle.run.specs.Tuning.{Kept};
+ghost use Rattle.run.specs.Tuning.{Kept, KeptSections};
 ghost use Rattle.run.specs.Run.{cleanFactor, constantsOf, signOf, smoothOf, offsetOf, steeringOf, steerOf, lagShare, lagPlace, lagState, placeOf, stateOf, drivenOf, settingsOf, kernelTick, mixOf, tickWith, TickLeaves};
 
 mod kernels;
@@ -176,7 +176,7 @@ fn mix(params: &[f32; 10], input: f32, wet: f32) -> f32
     (wet * params[5] + input * (1.0 - params[5])) * params[6]
 }
 
-// The lag, the drive and the kernel. `tuning` holds the numbers kept from frame to frame.
+// The lag, the drive and the kernel. `tuning` and `blended` hold the numbers kept from frame to frame.
 fn kernel_tick(
     code: u32,
     k: Constants,
@@ -185,6 +185,7 @@ fn kernel_tick(
     gain: f32,
     roots: &[u8; 1024],
     tuning: &mut [f32; 10],
+    blended: &mut [f32; 43],
     params: &[f32; 10],
     state: &mut [f32; 20],
     delay: &mut [f32],
@@ -194,14 +195,24 @@ fn kernel_tick(
     at: Place,
     input: f32,
 ) -> f32
-    requires { ⌜ (isView len slot (length (now delay)) ≡ true) × (Kept code (k .«ref_over_rate») (now tuning)) ⌝ }
-    ensures { λ r. ⌜ (KernelLeaves len slot (now (delay .entry)) (kernelTick code k (now (sections .entry)) active gain len cursor (now (params .entry)) (now (state .entry)) at input (piece len slot (now (delay .entry)))) r (now (state .exit)) (now (delay .exit))) × (Kept code (k .«ref_over_rate») (now (tuning .exit))) ⌝ }
+    requires { ⌜ (isView len slot (length (now delay)) ≡ true) × (Kept code (k .«ref_over_rate») (now tuning)) × (KeptSections (now sections) active (k .«ref_over_rate») (now blended)) ⌝ }
+    ensures { λ r. ⌜ (KernelLeaves len slot (now (delay .entry)) (kernelTick code k (now (sections .entry)) active gain len cursor (now (params .entry)) (now (state .entry)) at input (piece len slot (now (delay .entry)))) r (now (state .exit)) (now (delay .exit))) × (Kept code (k .«ref_over_rate») (now (tuning .exit))) × (KeptSections (now (sections .entry)) active (k .«ref_over_rate») (now (blended .exit))) ⌝ }
 {
     let lagged = lag(code, state, k.smooth_samples, params[7], at);
     let driven = drive(k, params, input);
     let p = settings_of(k, params, lagged);
     let reference = k.ref_over_rate;
     tuning::retune(code, tuning, Pitch(lagged.pitch), reference, params[7]);
+    tuning::blend_sections(
+        code,
+        blended,
+        sections,
+        active,
+        reference,
+        Pitch(lagged.pitch),
+        lagged.x,
+        lagged.y,
+    );
     kernels::kernel(
         code,
         sections,
@@ -209,6 +220,7 @@ fn kernel_tick(
         gain,
         roots,
         tuning,
+        blended,
         state,
         delay,
         len,
@@ -220,7 +232,7 @@ fn kernel_tick(
     )
 }
 
-// One frame of one slot. `roots` is the root's table, `tuning` holds the numbers kept from frame to frame.
+// One frame of one slot. `roots` is the root's table, `tuning` and `blended` hold the numbers kept from frame to frame.
 pub fn tick(
     code: u32,
     k: Constants,
@@ -229,6 +241,7 @@ pub fn tick(
     gain: f32,
     roots: &[u8; 1024],
     tuning: &mut [f32; 10],
+    blended: &mut [f32; 43],
     sign: f32,
     targets: &[f32; 10],
     params: &mut [f32; 10],
@@ -243,8 +256,8 @@ pub fn tick(
     x: f32,
     y: f32,
 ) -> f32
-    requires { ⌜ (length (now params) ≡ 10) × (isView len slot (length (now delay)) ≡ true) × (Kept code (k .«ref_over_rate») (now tuning)) ⌝ }
-    ensures { λ r. ⌜ (TickLeaves len slot (now (delay .entry)) (tickWith code k (now (sections .entry)) active gain len sign (now (targets .entry)) cursor (pitch .0) input (steeringOf steered x y) (now (params .entry) ++ now (state .entry)) (piece len slot (now (delay .entry)))) r (now (params .exit) ++ now (state .exit)) (now (delay .exit))) × (length (now (params .exit)) ≡ 10) × (Kept code (k .«ref_over_rate») (now (tuning .exit))) ⌝ }
+    requires { ⌜ (length (now params) ≡ 10) × (isView len slot (length (now delay)) ≡ true) × (Kept code (k .«ref_over_rate») (now tuning)) × (KeptSections (now sections) active (k .«ref_over_rate») (now blended)) ⌝ }
+    ensures { λ r. ⌜ (TickLeaves len slot (now (delay .entry)) (tickWith code k (now (sections .entry)) active gain len sign (now (targets .entry)) cursor (pitch .0) input (steeringOf steered x y) (now (params .entry) ++ now (state .entry)) (piece len slot (now (delay .entry)))) r (now (params .exit) ++ now (state .exit)) (now (delay .exit))) × (length (now (params .exit)) ≡ 10) × (Kept code (k .«ref_over_rate») (now (tuning .exit))) × (KeptSections (now (sections .entry)) active (k .«ref_over_rate») (now (blended .exit))) ⌝ }
 {
     smooth(params, targets, k.alpha);
     let at = Place {
@@ -260,6 +273,7 @@ pub fn tick(
         gain,
         roots,
         tuning,
+        blended,
         params,
         state,
         delay,

@@ -1,9 +1,11 @@
-// What a kernel has of the pitch and the character alone, kept from frame to frame and worked out again when one of them changes.
+// What a kernel has of the pitch and the character alone, or PoleZero of the pitch, X and Y, kept from frame to frame and worked out
+// again when one of them changes.
 ghost use mathlib.Core.Path.{_≡_};
 ghost use mathlib.Core.Bool.{true, false};
 ghost use lib.ListN.{getD};
 ghost use lib.Ieee.{nan, isNan};
-ghost use Rattle.run.specs.Tuning.{threeNumbers, djNumbers, diodeNumbers, drivenNumbers, combNumbers, bandNumbers, multimodeNumbers, k35Numbers, numbersOf, tuningOf, keyOf, Kept};
+ghost use Rattle.run.specs.Tuning.{threeNumbers, djNumbers, diodeNumbers, drivenNumbers, combNumbers, bandNumbers, multimodeNumbers, k35Numbers, numbersOf, tuningOf, keyOf, Kept, KeptSections};
+ghost use Rattle.poles.specs.Numbers.{poleNumbers};
 use combs::Comb2;
 use extended::Settings;
 use filter::Pitch;
@@ -150,4 +152,40 @@ pub fn retune(code: u32, tuning: &mut [f32; 10], pitch: Pitch, reference: Ratio,
         },
     );
     *tuning = next;
+}
+
+// Whether the kept numbers of the sections are those of this pitch, X and Y.
+fn is_blended(blended: &[f32; 43], pitch: f32, x: f32, y: f32) -> bool
+    ensures { λ r. ⌜ (r ≡ true → (isNan (getD (now (blended .entry)) 40 nan) ≡ false) × (getD (now (blended .entry)) 40 nan ≡ pitch) × (getD (now (blended .entry)) 41 nan ≡ x) × (getD (now (blended .entry)) 42 nan ≡ y)) ⌝ }
+{
+    if same(blended[40], pitch) {
+        if same(blended[41], x) {
+            return same(blended[42], y);
+        }
+    }
+    false
+}
+
+// Brings the sections' kept numbers to this pitch, X and Y. Only PoleZero (code 8) has sections.
+pub fn blend_sections(
+    code: u32,
+    blended: &mut [f32; 43],
+    sections: &[f32; 160],
+    active: u32,
+    reference: Ratio,
+    pitch: Pitch,
+    x: f32,
+    y: f32,
+)
+    requires { ⌜ KeptSections (now sections) active reference (now blended) ⌝ }
+    ensures { λ _. ⌜ (code ≡ 8 → now (blended .exit) ≡ poleNumbers (now (sections .entry)) active reference pitch x y) × (KeptSections (now (sections .entry)) active reference (now (blended .exit))) ⌝ }
+{
+    if code != 8 {
+        return;
+    }
+    if is_blended(blended, pitch.0, x, y) {
+        return;
+    }
+    let next = poles::pole_numbers(sections, active, reference, pitch, x, y);
+    *blended = next;
 }

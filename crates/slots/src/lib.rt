@@ -9,7 +9,7 @@ ghost use lib.Seq.{paste};
 ghost use Rattle.parts.specs.Parts.{upto, piece, patch};
 ghost use Rattle.extended.specs.Extended.{linesMark};
 ghost use Rattle.voices.specs.Calls.{positiveZero, targetsWidth, recordWidth, statesWidth, frameOf, slotOf, blockOf};
-ghost use Rattle.run.specs.Tuning.{Kept};
+ghost use Rattle.run.specs.Tuning.{Kept, KeptSections};
 ghost use Rattle.slots.specs.Slots.{engineAt, blockOn, blockAt, bankAt, blockRun, slotRun, Worked, Placed, Buffers, Lists, channelAt};
 use filter::Pitch;
 use run::Constants;
@@ -163,12 +163,13 @@ fn steering_at(steered: bool, list: &[f32], i: usize) -> f32
     0.0
 }
 
-// One frame of a slot, with the slot's record in hand. `tuning` holds the numbers kept from frame to frame.
+// One frame of a slot, with the slot's record in hand. `tuning` and `blended` hold the numbers kept from frame to frame.
 fn frame(
     e: Prepared,
     sections: &[f32; 160],
     roots: &[u8; 1024],
     tuning: &mut [f32; 10],
+    blended: &mut [f32; 43],
     targets: &[f32; 10],
     params: &mut [f32; 10],
     state: &mut [f32; 20],
@@ -180,8 +181,8 @@ fn frame(
     p: Place,
     f: usize,
 )
-    requires { ⌜ (Worked e) × (Placed e p) × (Buffers e (now pitch) (now x) (now y) (now delay) (now audio)) × (f < e .frames) × (length (now params) ≡ 10) × (Kept (e .code) (e .k .«ref_over_rate») (now tuning)) ⌝ }
-    ensures { λ _. ⌜ (slotRun (now (params .exit)) (now (state .exit)) (now (delay .exit)) (now (audio .exit)) ≡ frameOf (engineAt e (now (sections .entry))) (e .voices) (blockAt e (now (pitch .entry)) (now (x .entry)) (now (y .entry))) (now (targets .entry)) (e .cursor) (p .channel) (p .voice) f (slotRun (now (params .entry)) (now (state .entry)) (now (delay .entry)) (now (audio .entry)))) × (length (now (params .exit)) ≡ 10) × (Kept (e .code) (e .k .«ref_over_rate») (now (tuning .exit))) ⌝ }
+    requires { ⌜ (Worked e) × (Placed e p) × (Buffers e (now pitch) (now x) (now y) (now delay) (now audio)) × (f < e .frames) × (length (now params) ≡ 10) × (Kept (e .code) (e .k .«ref_over_rate») (now tuning)) × (KeptSections (now sections) (e .active) (e .k .«ref_over_rate») (now blended)) ⌝ }
+    ensures { λ _. ⌜ (slotRun (now (params .exit)) (now (state .exit)) (now (delay .exit)) (now (audio .exit)) ≡ frameOf (engineAt e (now (sections .entry))) (e .voices) (blockAt e (now (pitch .entry)) (now (x .entry)) (now (y .entry))) (now (targets .entry)) (e .cursor) (p .channel) (p .voice) f (slotRun (now (params .entry)) (now (state .entry)) (now (delay .entry)) (now (audio .entry)))) × (length (now (params .exit)) ≡ 10) × (Kept (e .code) (e .k .«ref_over_rate») (now (tuning .exit))) × (KeptSections (now (sections .entry)) (e .active) (e .k .«ref_over_rate») (now (blended .exit))) ⌝ }
 {
     let at = place_at(f, e.slots, p.slot, e.frames, audio.len());
     let from = place_at(f, e.voices, p.voice, e.frames, pitch.len());
@@ -199,6 +200,7 @@ fn frame(
         e.gain,
         roots,
         tuning,
+        blended,
         p.sign,
         targets,
         params,
@@ -222,6 +224,7 @@ fn run_frames(
     sections: &[f32; 160],
     roots: &[u8; 1024],
     tuning: &mut [f32; 10],
+    blended: &mut [f32; 43],
     targets: &[f32; 10],
     params: &mut [f32; 10],
     state: &mut [f32; 20],
@@ -232,7 +235,7 @@ fn run_frames(
     audio: &mut [f32],
     p: Place,
 )
-    requires { ⌜ (Worked e) × (Placed e p) × (Buffers e (now pitch) (now x) (now y) (now delay) (now audio)) × (length (now params) ≡ 10) × (Kept (e .code) (e .k .«ref_over_rate») (now tuning)) ⌝ }
+    requires { ⌜ (Worked e) × (Placed e p) × (Buffers e (now pitch) (now x) (now y) (now delay) (now audio)) × (length (now params) ≡ 10) × (Kept (e .code) (e .k .«ref_over_rate») (now tuning)) × (KeptSections (now sections) (e .active) (e .k .«ref_over_rate») (now blended)) ⌝ }
     ensures { λ _. ⌜ slotRun (now (params .exit)) (now (state .exit)) (now (delay .exit)) (now (audio .exit)) ≡ upto (frameOf (engineAt e (now (sections .entry))) (e .voices) (blockAt e (now (pitch .entry)) (now (x .entry)) (now (y .entry))) (now (targets .entry)) (e .cursor) (p .channel) (p .voice)) (e .frames) (slotRun (now (params .entry)) (now (state .entry)) (now (delay .entry)) (now (audio .entry))) ⌝ }
 {
     let frames = e.frames;
@@ -243,6 +246,7 @@ fn run_frames(
             sections,
             roots,
             tuning,
+            blended,
             targets,
             params,
             state,
@@ -289,11 +293,13 @@ fn run_slot(
     let mut params = load_ten(records, at);
     let mut state = load_states(records, at + 10);
     let mut tuning = [0.0f32 / 0.0; 10];
+    let mut blended = [0.0f32 / 0.0; 43];
     run_frames(
         e,
         sections,
         roots,
         &mut tuning,
+        &mut blended,
         &goals,
         &mut params,
         &mut state,

@@ -4,33 +4,39 @@ use mathlib.Core.Path.{sym, ap, _∙_}
 use denote.Ref.{now}
 use Rattle.filter.specs.declared.Pitch.{Pitch}
 use Rattle.extended.specs.declared.Settings.{Settings}
+use Rattle.poles.specs.Numbers.{poleNumbers}
 use Rattle.run.specs.declared.Place.{Place}
 use Rattle.run.specs.Run.{kernelTick}
 use Rattle.run.specs.Tuning.{tuningOf}
-use Rattle.run.proofs.Keeping.{key-settings, kept}
+use Rattle.run.proofs.Keeping.{key-settings, kept, place-settings}
 use Rattle.run.proofs.kernel_tick.Statement.{statement}
 use Rattle.run.proofs.kernel_tick.Tie as tie
 
 kernel-requires : tie.Need-kernel-requires
 kernel-requires c κs =
-    let settings = c .before .before .before .before .before .before .before in
-    let a = c .before .before .before .before .before .before .before .before .before .before .before .before .before .args in
-    let lagged : Place = c .before .before .before .before .before .before .before .before .before .lag .result in
+    let start = c .before .before .before .before .before .before .before .before .before .before .before .before .before .before .before .before in
+    let a = start .args in
+    let settings = c .before .before .before .before .before .before .before .before .before .before .settings-of .ensures in
+    let lagged : Place = c .before .before .before .before .before .before .before .before .before .before .before .before .lag .result in
     let pitch : Pitch = record { 0 = lagged .pitch } in (
-      c .before .before .before .before .before .before .before .before .before .before .before .before .before .pre .0,
-      c .before .before .before .retune .ensures
+      start .pre .0,
+      c .before .before .before .before .before .before .retune .ensures
           ∙ key-settings (a .code) pitch (a .k) (now (a .params)) lagged
-          ∙ ap (λ (p : Settings). tuningOf (a .code) pitch p) (sym (settings .settings-of .ensures)),
+          ∙ ap (λ (p : Settings). tuningOf (a .code) pitch p) (sym settings),
+      λ e. c .before .before .before .before .blend-sections .ensures .0 e
+          ∙ place-settings (now (a .sections)) (a .active) pitch (a .k) (now (a .params)) lagged
+          ∙ ap (λ (p : Settings). poleNumbers (now (a .sections)) (a .active) (p .«ref_over_rate») pitch (p .x) (p .y)) (sym settings),
     )
 
 returns : tie.Need-returns
 unfolding kernelTick
 returns c =
-    let settings = c .before .before .before .before .before .before .before .before .before .before in
-    let a = c .before .before .before .before .before .before .before .before .before .before .before .before .before .before .before .before .args in
-    let lag = settings .before .before .lag .ensures in (
+    let settings = c .before .before .before .before .before .before .before .before .before .before .before .before .before in
+    let a = c .before .before .before .before .before .before .before .before .before .before .before .before .before .before .before .before .before .before .before .args in
+    let lag = c .before .before .before .before .before .before .before .before .before .before .before .before .before .before .before .lag .ensures in (
       rw (← lag .0, ← lag .1, ← settings .before .drive .ensures, ← settings .settings-of .ensures) (c .before .before .kernel .ensures),
-      kept (a .code) (a .k .«ref_over_rate») _ _ _ (c .before .before .before .before .before .before .retune .ensures),
+      kept (a .code) (a .k .«ref_over_rate») _ _ _ (c .before .before .before .before .before .before .before .before .before .retune .ensures),
+      c .before .before .before .before .before .before .before .blend-sections .ensures .1,
     )
 
 pub kernel-tick-spec : {M : Type 1} → statement M
@@ -38,5 +44,5 @@ kernel-tick-spec =
     tie.close
     (tie.spec
     (λ c. search needs) (λ c κs. tt) (λ c κs. tt) (λ c κs. tt) (λ c. search needs)
-    (λ c κs. c .before .before .before .before .before .before .before .before .before .pre .1) kernel-requires
+    (λ c κs. c .before .before .before .before .before .before .before .before .before .pre .1) (λ c κs. c .before .before .before .before .before .before .before .before .before .before .before .pre .2) kernel-requires
     (λ c. search needs) returns)

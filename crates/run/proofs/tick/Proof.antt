@@ -15,7 +15,7 @@ use Rattle.run.proofs.tick.Tie as tie
 returns : tie.Need-returns
 unfolding offsetOf
 returns c =
-    let steer2 = c .before .before .before .before .before .before .before .before .before in
+    let steer2 = c .before .before .before .before .before .before .before .before .before .before in
     let steer1 = steer2 .before .before in
     let smooth = steer1 .before .before .before .before in
     let a = smooth .before .before .before .args in (
@@ -44,6 +44,7 @@ returns c =
           (c .mix .ensures),
       ap length (smooth .smooth .ensures) ∙ smooth-length (a .k .alpha) (now (a .targets)) (now (a .params)),
       c .before .before .before .before .kernel-tick .ensures .1,
+      c .before .before .before .before .kernel-tick .ensures .2,
     )
 
 pub tick-spec : {M : Type 1} → statement M
@@ -51,5 +52,5 @@ tick-spec =
     tie.close
     (tie.spec
     (λ c κs. tt) (λ c. search needs) (λ c. search needs) (λ c κs. tt) (λ c. search needs) (λ c κs. tt)
-    (λ c κs. let s = c .before .before .before .before .before .before .before .before .before .before .before .before .before in (s .pre .1, s .pre .2))
+    (λ c κs. let s = c .before .before .before .before .before .before .before .before .before .before .before .before .before .before in (s .pre .1, s .pre .2, s .pre .3))
     (λ c κs. tt) (λ c. search needs) returns)

@@ -8,34 +8,35 @@ use denote.Ref.{now}
 use lib.ListN.{length}
 use Rattle.parts.specs.Parts.{upto}
 use Rattle.voices.specs.Calls.{SlotRun, frameOf}
-use Rattle.run.specs.Tuning.{Kept}
+use Rattle.run.specs.Tuning.{Kept, KeptSections}
 use Rattle.slots.specs.Slots.{engineAt, blockAt, slotRun}
 use Rattle.slots.proofs.run_frames.Statement.{statement}
 use Rattle.slots.proofs.run_frames.Tie as tie
 
 abbrev Inv-loop : tie.InvT-loop
-Inv-loop e sections roots tuning₀ targets params₀ state₀ delay₀ pitch x y audio₀ p frames f₀ tuning params state delay audio f =
+Inv-loop e sections roots tuning₀ blended₀ targets params₀ state₀ delay₀ pitch x y audio₀ p frames f₀ tuning blended params state delay audio f =
     (f ≤ e .frames)
     × (slotRun params state delay audio ≡ upto (frameOf (engineAt e sections) (e .voices) (blockAt e pitch x y) targets (e .cursor) (p .channel) (p .voice)) f (slotRun params₀ state₀ delay₀ audio₀))
     × (length delay ≡ length delay₀)
     × (length audio ≡ length audio₀)
     × (length params ≡ 10)
     × Kept (e .code) (e .k .«ref_over_rate») tuning
+    × KeptSections sections (e .active) (e .k .«ref_over_rate») blended
 
 abbrev μ-loop : tie.MeasureT-loop
-μ-loop e sections roots tuning₀ targets params₀ state₀ delay₀ pitch x y audio₀ p frames f₀ tuning params state delay audio f = e .frames - f
+μ-loop e sections roots tuning₀ blended₀ targets params₀ state₀ delay₀ pitch x y audio₀ p frames f₀ tuning blended params state delay audio f = e .frames - f
 
 frame-requires : tie.Need-frame-requires Inv-loop μ-loop
 frame-requires c κs =
-    let s = c .before .before .before .before .before .before .before .before .before .before .before .before in
-    let l = c .before .before .before .before .before .before .loop in
+    let s = c .before .before .before .before .before .before .before .before .before .before .before .before .before in
+    let l = c .before .before .before .before .before .before .before .loop in
     let b = s .pre .2 in
-    (s .pre .0, s .pre .1, record { pitch = b .pitch; x = b .x; y = b .y; delay = l .inv .2 ∙ b .delay; audio = l .inv .3 ∙ b .audio }, c .before .before .before .before .before .loop-test .taken, l .inv .4, l .inv .5)
+    (s .pre .0, s .pre .1, record { pitch = b .pitch; x = b .x; y = b .y; delay = l .inv .2 ∙ b .delay; audio = l .inv .3 ∙ b .audio }, c .before .before .before .before .before .before .loop-test .taken, l .inv .4, l .inv .5, l .inv .6)
 
 loop-again : tie.Need-loop-again Inv-loop μ-loop
 loop-again c =
-    let a = c .before .before .before .before .before .before .before .before .before .before .before .before .before .before .before .before .before .args in
-    let l = c .before .before .before .before .before .before .before .before .before .before .before .loop in
+    let a = c .before .before .before .before .before .before .before .before .before .before .before .before .before .before .before .before .before .before .args in
+    let l = c .before .before .before .before .before .before .before .before .before .before .before .before .loop in
     let g : ℕ → SlotRun → SlotRun = frameOf (engineAt (a .e) (now (a .sections))) (a .e .voices) (blockAt (a .e) (now (a .pitch)) (now (a .x)) (now (a .y))) (now (a .targets)) (a .e .cursor) (a .p .channel) (a .p .voice) in (
       omega arith,
       c .before .before .before .before .frame .ensures .0
@@ -45,6 +46,7 @@ loop-again c =
       omega (arith, l .inv .3),
       c .before .before .before .before .frame .ensures .1,
       c .before .before .before .before .frame .ensures .2,
+      c .before .before .before .before .frame .ensures .3,
     )
 
 returns : tie.Need-returns Inv-loop μ-loop
@@ -61,9 +63,9 @@ run-frames-spec =
     (tie.spec
     Inv-loop
     μ-loop
-    (λ c. (zero-le, refl, refl, refl, omega arith, c .before .before .before .before .before .pre .4))
+    (λ c. (zero-le, refl, refl, refl, omega arith, c .before .before .before .before .before .pre .4, c .before .before .before .before .before .pre .5))
     frame-requires
-    (λ c. omega (arith, c .before .before .before .before .before .before .before .before .before .before .loop-test .taken, c .before .before .before .before .before .before .before .before .before .before .before .before .before .before .before .before .before .pre .0 .frames))
+    (λ c. omega (arith, c .before .before .before .before .before .before .before .before .before .before .before .loop-test .taken, c .before .before .before .before .before .before .before .before .before .before .before .before .before .before .before .before .before .before .pre .0 .frames))
     (λ c. omega arith)
     loop-again
     (λ c. omega arith)

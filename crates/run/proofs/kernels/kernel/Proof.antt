@@ -9,7 +9,7 @@ use lib.Ieee.{Float}
 use Rattle.parts.specs.Parts.{piece, patch-piece}
 use Rattle.extended.specs.Extended.{Ticked}
 use Rattle.run.specs.Kernels.{kernelOf, onStates, KernelLeaves}
-use Rattle.run.proofs.Keeping.{buzz-is, dj-is, diffuser-is, transistor-is, acid-is, clean-is, driven-is, comb-is, multimode-is, weights-are, band-is, k35-is}
+use Rattle.run.proofs.Keeping.{buzz-is, dj-is, diffuser-is, transistor-is, acid-is, clean-is, driven-is, comb-is, multimode-is, weights-are, band-is, k35-is, sections-step}
 use Rattle.run.proofs.kernels.kernel.Statement.{statement}
 use Rattle.run.proofs.kernels.kernel.Tie as tie
 
@@ -111,8 +111,11 @@ returns-12 c =
 returns-8 : tie.Need-returns-8
 unfolding kernelOf
 returns-8 c =
-    let e = c .pole-zero-tick .ensures in
-    rw (c .before .before .match .keys8)
+    let s = c .before .before .before .before in
+    let a = s .args in
+    let key = c .before .before .match .keys8 in
+    let e = c .pole-zero-step .ensures ∙ sections-step (a .code) (now (a .sections)) (a .active) (a .gain) (a .pitch) (a .p) (now (a .blended)) key (s .pre .2) (now (a .state)) (a .x) in
+    rw key
     (on-states _ _ _ _ _ _ (ap (λ (t : Ticked). t .out) e) (ap (λ (t : Ticked). t .state) e))
 
 returns-9 : tie.Need-returns-9
