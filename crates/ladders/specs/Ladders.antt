@@ -1,44 +1,19 @@
--- The ladders and the K35 (extended.rs). Each kernel has two parts: what follows from the pitch and the settings alone, and the
+-- The transistor and diode ladders (extended.rs). Each kernel has two parts: what follows from the pitch and the settings alone, and the
 -- step over the input and the states. Definitions only. Assumes nothing.
 use mathlib.Core.List.{List}
-use lib.ListN.{getD, set}
+use lib.ListN.{getD}
 use lib.Ieee.{Float, nan, neg}
-use Rattle.lane.specs.Floats.{_⊕_, _⊖_, _⊗_, _⊘_, fma, decimal, whole, zero, one, two, half}
-use Rattle.lane.specs.Lane.{maxOf, minOf, exp2Of, softClip, saturationGain, log2of10}
+use Rattle.lane.specs.Floats.{_⊕_, _⊖_, _⊗_, _⊘_, fma, decimal, whole, one, two, half}
+use Rattle.lane.specs.Lane.{exp2Of, softClip, saturationGain, log2of10}
 use Rattle.filter.specs.declared.Pitch.{Pitch}
 use Rattle.filter.specs.Filter.{gainOf}
 use Rattle.extended.specs.declared.Settings.{Settings}
-use Rattle.extended.specs.Extended.{Ticked, unitOf, asymOf}
-use Rattle.ladders.specs.declared.Four.{Four}
-use Rattle.ladders.specs.declared.Five.{Five}
+use Rattle.extended.specs.Extended.{Ticked, asymOf}
+use Rattle.stages.specs.declared.Four.{Four}
+use Rattle.stages.specs.Stages.{stagesOf, ladderStates, ladderMax, ladderCompensation}
 use Rattle.ladders.specs.declared.TransistorLadder.{TransistorLadder}
 use Rattle.ladders.specs.declared.DrivenLadder.{DrivenLadder}
 use Rattle.ladders.specs.declared.DiodeLadder.{DiodeLadder}
-use Rattle.ladders.specs.declared.Expander.{Expander}
-use Rattle.ladders.specs.declared.K35.{K35}
-use Rattle.ladders.specs.declared.Half35.{Half35}
-
--- the first four states
-unfoldable pub stagesOf : List Float → Four
-stagesOf state = record { 0 = getD state 0 nan; 1 = getD state 1 nan; 2 = getD state 2 nan; 3 = getD state 3 nan }
-
--- a ladder's states after its stages gave y: each stage's is y + y - state, and the fourth output is kept for the next feedback
-unfoldable pub ladderStates : List Float → Four → List Float
-ladderStates state y =
-    set
-    (set
-    (set
-    (set (set state 0 (y .0 ⊕ y .0 ⊖ getD state 0 nan)) 1 (y .1 ⊕ y .1 ⊖ getD state 1 nan)) 2
-    (y .2 ⊕ y .2 ⊖ getD state 2 nan)) 3
-    (y .3 ⊕ y .3 ⊖ getD state 3 nan)) 4
-    (y .3)
-
--- LADDER_MAX, LADDER_COMPENSATION
-abbrev pub ladderMax : Float
-ladderMax = decimal 41 10
-
-abbrev pub ladderCompensation : Float
-ladderCompensation = half
 
 -- ---- TransistorLadder: four one-pole stages with feedback from the last, each stage's gain falling as its state grows.
 -- State: 0 to 3 the stages, 4 the previous fourth-stage output.
@@ -182,154 +157,3 @@ cleanStep c state x =
     let k = diodeFeedback c state in
     let y = diodeSolve c (stagesOf state) k (x ⊗ (one ⊕ k)) in
     record { out = y .3; state = ladderStates state y }
-
--- ---- Expander: the normal ladder's four one-pole stages, the output a mix of its input and its four stages.
--- State as the transistor ladder's.
-
-unfoldable pub expanderCoefficients : Pitch → Settings → Expander
-expanderCoefficients pitch p =
-    let g = gainOf pitch (p .«ref_over_rate») in
-    let v = g ⊘ (one ⊕ g) in
-    let v2 = v ⊗ v in
-    record { gg = v; h = one ⊖ v; gg4 = v2 ⊗ v2; k = p .resonance ⊗ ladderMax; «inv_knee» = p .«inv_knee» }
-
--- the same from what follows from the pitch alone
-unfoldable pub expanderWith : Float → Float → Float → Settings → Expander
-expanderWith gg h gg4 p = record { gg = gg; h = h; gg4 = gg4; k = p .resonance ⊗ ladderMax; «inv_knee» = p .«inv_knee» }
-
--- the ladder's input and the four stages' outputs
-unfoldable pub expanderSolve : Expander → Four → Float → Float → Five
-expanderSolve c s k x =
-    let b0 = c .h ⊗ s .0 in
-    let b1 = c .h ⊗ s .1 in
-    let b2 = c .h ⊗ s .2 in
-    let b3 = c .h ⊗ s .3 in
-    let sum = fma ((b0 ⊗ c .gg ⊕ b1) ⊗ c .gg ⊕ b2) (c .gg) b3 in
-    let input = x ⊗ fma k ladderCompensation one in
-    let y4 = fma (c .gg4) input sum ⊘ fma k (c .gg4) one in
-    let v = input ⊖ k ⊗ y4 in
-    let t1 = fma (c .gg) v b0 in
-    let t2 = fma (c .gg) t1 b1 in
-    let t3 = fma (c .gg) t2 b2 in
-    let t4 = fma (c .gg) t3 b3 in
-    record { 0 = v; 1 = t1; 2 = t2; 3 = t3; 4 = t4 }
-
-unfoldable pub expanderTaps : Expander → List Float → Float → Five
-expanderTaps c state x =
-    expanderSolve c (stagesOf state) (c .k ⊗ saturationGain (getD state 4 nan) (c .«inv_knee»)) x
-
-abbrev pub stages : Five → Four
-stages t = record { 0 = t .1; 1 = t .2; 2 = t .3; 3 = t .4 }
-
--- BAND: 4 (y2 - 2 y3 + y4)
-unfoldable pub bandMix : Five → Float
-bandMix t = whole 4 ⊗ (t .2 ⊖ t .3 ⊖ t .3 ⊕ t .4)
-
-unfoldable pub bandStep : Expander → List Float → Float → Ticked
-bandStep c state x =
-    let t = expanderTaps c state x in
-    record { out = bandMix t; state = ladderStates state (stages t) }
-
--- the multimode's weight of one tap: low-pass to notch over the first half of character, notch to high-pass over the second
-unfoldable pub tapWeight : Float → Float → Float → Float → Float → Float
-tapWeight a c low notch high = fma c (high ⊖ notch) (fma a (notch ⊖ low) low)
-
--- EXPANDER_LOW, EXPANDER_NOTCH and EXPANDER_HIGH, tap by tap
-unfoldable pub multimodeWeights : Float → Five
-multimodeWeights character =
-    let a = minOf (character ⊗ two) one in
-    let c = maxOf (character ⊗ two ⊖ one) zero in
-    record {
-      0 = tapWeight a c zero one one;
-      1 = tapWeight a c zero (neg (whole 4)) (neg (whole 4));
-      2 = tapWeight a c zero (whole 8) (whole 6);
-      3 = tapWeight a c zero (neg (whole 8)) (neg (whole 4));
-      4 = tapWeight a c one (whole 4) one;
-    }
-
-unfoldable pub multimodeMix : Five → Five → Float
-multimodeMix w t =
-    fma (w .4) (t .4) (fma (w .3) (t .3) (fma (w .2) (t .2) (fma (w .1) (t .1) (fma (w .0) (t .0) zero))))
-
-unfoldable pub multimodeStep : Expander → Five → List Float → Float → Ticked
-multimodeStep c w state x =
-    let t = expanderTaps c state x in
-    record { out = multimodeMix w t; state = ladderStates state (stages t) }
-
--- ---- K35: a Sallen-Key low-pass and a high-pass, both running, with a saturator on the feedback amplifier; character picks one,
--- crossfading over a tenth of its range. State: 0 to 2 the low-pass's stages, 3 its previous feedback; 4 to 7 the high-pass's.
-
--- K35_MAX, K35_SWITCH; K35_KNEE = 3
-abbrev pub k35Max : Float
-k35Max = decimal 204 100
-
-abbrev pub k35Switch0 : Float
-k35Switch0 = decimal 45 100
-
-abbrev pub k35Switch1 : Float
-k35Switch1 = decimal 55 100
-
-unfoldable pub k35Coefficients : Pitch → Settings → K35
-k35Coefficients pitch p =
-    let g = gainOf pitch (p .«ref_over_rate») in
-    let v = g ⊘ (one ⊕ g) in
-    record {
-      gg = v;
-      h = one ⊖ v;
-      base = p .resonance ⊗ k35Max;
-      «inv_knee» = p .«inv_knee» ⊗ whole 3;
-      w = unitOf ((p .character ⊖ k35Switch0) ⊗ (one ⊘ (k35Switch1 ⊖ k35Switch0)));
-    }
-
--- the same from what follows from the pitch and the character alone
-unfoldable pub k35With : Float → Float → Float → Settings → K35
-k35With gg h w p = record { gg = gg; h = h; base = p .resonance ⊗ k35Max; «inv_knee» = p .«inv_knee» ⊗ whole 3; w = w }
-
--- den_of
-unfoldable pub k35Den : K35 → Float → Float
-k35Den c k = one ⊘ (one ⊖ k ⊗ c .gg ⊗ c .h)
-
--- one half's output and its four states after it, from its states s0 to s2, its feedback k and den_of(k)
-unfoldable pub k35Low : K35 → Float → Float → Float → Float → Float → Float → Half35
-k35Low c s0 s1 s2 k den x =
-    let y1 = fma (c .gg) x (c .h ⊗ s0) in
-    let y2 = (c .gg ⊗ y1 ⊖ k ⊗ c .gg ⊗ c .h ⊗ s2 ⊕ c .h ⊗ s1) ⊗ den in
-    let hp3 = c .h ⊗ (y2 ⊖ s2) in
-    let lp3 = y2 ⊖ hp3 in
-    record { out = y2; s0 = y1 ⊕ y1 ⊖ s0; s1 = y2 ⊕ y2 ⊖ s1; s2 = lp3 ⊕ lp3 ⊖ s2; s3 = k ⊗ hp3 }
-
-unfoldable pub k35High : K35 → Float → Float → Float → Float → Float → Float → Half35
-k35High c s0 s1 s2 k den x =
-    let y1 = c .h ⊗ (x ⊖ s0) in
-    let y2 = c .h ⊗ (y1 ⊕ k ⊗ c .h ⊗ s2 ⊖ s1) ⊗ den in
-    let lp3 = fma (c .gg) y2 (c .h ⊗ s2) in
-    let v = fma k lp3 y1 in
-    let lp1 = x ⊖ y1 in
-    let lp2 = v ⊖ y2 in
-    record { out = y2; s0 = lp1 ⊕ lp1 ⊖ s0; s1 = lp2 ⊕ lp2 ⊖ s1; s2 = lp3 ⊕ lp3 ⊖ s2; s3 = k ⊗ lp3 }
-
-unfoldable pub k35LowOf : K35 → List Float → Float → Half35
-k35LowOf c state x =
-    let k = c .base ⊗ saturationGain (getD state 3 nan) (c .«inv_knee») in
-    k35Low c (getD state 0 nan) (getD state 1 nan) (getD state 2 nan) k (k35Den c k) x
-
-unfoldable pub k35HighOf : K35 → List Float → Float → Half35
-k35HighOf c state x =
-    let k = c .base ⊗ saturationGain (getD state 7 nan) (c .«inv_knee») in
-    k35High c (getD state 4 nan) (getD state 5 nan) (getD state 6 nan) k (k35Den c k) x
-
-unfoldable pub k35States : List Float → Half35 → Half35 → List Float
-k35States state l h =
-    set
-    (set
-    (set
-    (set (set (set (set (set state 0 (l .s0)) 1 (l .s1)) 2 (l .s2)) 3 (l .s3)) 4 (h .s0)) 5
-    (h .s1)) 6
-    (h .s2)) 7
-    (h .s3)
-
-unfoldable pub k35Step : K35 → List Float → Float → Ticked
-k35Step c state x =
-    let l = k35LowOf c state x in
-    let h = k35HighOf c state x in
-    record { out = fma (c .w) (h .out ⊖ l .out) (l .out); state = k35States state l h }

@@ -9,7 +9,7 @@ use lib.Seq.{take-at, drop-at}
 use lib.Ieee.{Float, nan}
 use Rattle.run.specs.declared.Constants.{Constants}
 use Rattle.run.specs.declared.Place.{Place}
-use Rattle.run.specs.Kernels.{Kernel, KernelLeaves}
+use Rattle.kernels.specs.Kernels.{Kernel, KernelLeaves}
 use Rattle.run.specs.Run.{smoothOf, offsetOf, steeringOf, steerOf, steeredX, steeredY, kernelTick, mixOf, tickWith, placed, TickLeaves}
 
 -- steering as a mark and two numbers

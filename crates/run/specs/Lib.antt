@@ -1,4 +1,2 @@
-pub mod Kernels
 pub mod Run
-pub mod Tuning
 pub mod Laws

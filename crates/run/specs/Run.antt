@@ -17,7 +17,7 @@ use Rattle.extended.specs.Extended.{unitOf, smoothMark}
 use Rattle.voices.specs.Calls.{Tick, Steering, targetsWidth}
 use Rattle.run.specs.declared.Constants.{Constants}
 use Rattle.run.specs.declared.Place.{Place}
-use Rattle.run.specs.Kernels.{Kernel, kernelOf}
+use Rattle.kernels.specs.Kernels.{Kernel, kernelOf}
 
 -- ---- worked out once a block. SMOOTHING_SECONDS = 0.002, CLEAN_DB = 24, SMOOTH_SECONDS = 0.1
 

@@ -5,13 +5,9 @@ ghost use mathlib.Core.List.{_++_};
 ghost use lib.ListN.{length};
 ghost use Rattle.parts.specs.Parts.{piece, patch};
 ghost use Rattle.lines.specs.Lines.{isView};
-ghost use Rattle.run.specs.Kernels.{kernelOf, KernelLeaves};
-ghost use Rattle.run.specs.Tuning.{Kept, KeptSections};
+ghost use Rattle.kernels.specs.Kernels.{kernelOf, KernelLeaves};
+ghost use Rattle.kernels.specs.Tuning.{Kept, KeptSections};
 ghost use Rattle.run.specs.Run.{cleanFactor, constantsOf, signOf, smoothOf, offsetOf, steeringOf, steerOf, lagShare, lagPlace, lagState, placeOf, stateOf, drivenOf, settingsOf, kernelTick, mixOf, tickWith, TickLeaves};
-
-mod kernels;
-mod tuning;
-
 use extended::Settings;
 use filter::Pitch;
 use filter::Ratio;
@@ -202,8 +198,8 @@ fn kernel_tick(
     let driven = drive(k, params, input);
     let p = settings_of(k, params, lagged);
     let reference = k.ref_over_rate;
-    tuning::retune(code, tuning, Pitch(lagged.pitch), reference, params[7]);
-    tuning::blend_sections(
+    kernels::tuning::retune(code, tuning, Pitch(lagged.pitch), reference, params[7]);
+    kernels::tuning::blend_sections(
         code,
         blended,
         sections,

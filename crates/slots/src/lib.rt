@@ -9,7 +9,7 @@ ghost use lib.Seq.{paste};
 ghost use Rattle.parts.specs.Parts.{upto, piece, patch};
 ghost use Rattle.extended.specs.Extended.{linesMark};
 ghost use Rattle.voices.specs.Calls.{positiveZero, targetsWidth, recordWidth, statesWidth, frameOf, slotOf, blockOf};
-ghost use Rattle.run.specs.Tuning.{Kept, KeptSections};
+ghost use Rattle.kernels.specs.Tuning.{Kept, KeptSections};
 ghost use Rattle.slots.specs.Slots.{engineAt, blockOn, blockAt, bankAt, blockRun, slotRun, Worked, Placed, Buffers, Lists, channelAt};
 use filter::Pitch;
 use run::Constants;

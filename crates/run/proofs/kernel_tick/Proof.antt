@@ -7,8 +7,9 @@ use Rattle.extended.specs.declared.Settings.{Settings}
 use Rattle.poles.specs.Numbers.{poleNumbers}
 use Rattle.run.specs.declared.Place.{Place}
 use Rattle.run.specs.Run.{kernelTick}
-use Rattle.run.specs.Tuning.{tuningOf}
-use Rattle.run.proofs.Keeping.{key-settings, kept, place-settings}
+use Rattle.kernels.specs.Tuning.{tuningOf}
+use Rattle.kernels.specs.Keeping.{kept}
+use Rattle.run.proofs.Keeping.{key-settings, place-settings}
 use Rattle.run.proofs.kernel_tick.Statement.{statement}
 use Rattle.run.proofs.kernel_tick.Tie as tie
 

@@ -8,7 +8,7 @@ use denote.Ref.{now}
 use lib.ListN.{length}
 use Rattle.parts.specs.Parts.{upto}
 use Rattle.voices.specs.Calls.{SlotRun, frameOf}
-use Rattle.run.specs.Tuning.{Kept, KeptSections}
+use Rattle.kernels.specs.Tuning.{Kept, KeptSections}
 use Rattle.slots.specs.Slots.{engineAt, blockAt, slotRun}
 use Rattle.slots.proofs.run_frames.Statement.{statement}
 use Rattle.slots.proofs.run_frames.Tie as tie

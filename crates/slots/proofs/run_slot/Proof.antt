@@ -10,7 +10,7 @@ use lib.ListN.{length, take, drop, length-drop, replicate}
 use lib.Seq.{length-take-le}
 use Rattle.parts.specs.Parts.{piece}
 use Rattle.filter.specs.declared.Ratio.{Ratio}
-use Rattle.run.specs.Tuning.{Kept, KeptSections}
+use Rattle.kernels.specs.Tuning.{Kept, KeptSections}
 use Rattle.voices.specs.Calls.{targetsWidth}
 use Rattle.slots.specs.Slots.{engineAt, blockAt, blockRun}
 use Rattle.slots.specs.Frame.{targets-piece, slot-is}

@@ -1,0 +1,26 @@
+-- `kernels::tuning::retune` meets its contract: the kept numbers are those of the same pitch and character, or they are worked out.
+use mathlib.Core.Path.{_≡_, _∙_}
+use denote.Ref.{now}
+use lib.Ieee.{ofBits, round}
+use Rattle.filter.specs.declared.Pitch.{Pitch}
+use Rattle.kernels.specs.Tuning.{tuningOf, keyOf, Kept}
+use Rattle.kernels.proofs.tuning.retune.Statement.{statement}
+use Rattle.kernels.proofs.tuning.retune.Tie as tie
+
+returns : tie.Need-returns
+unfolding Kept
+returns c =
+    let s = c .before .before .before in
+    let a = s .args in
+    let key = c .before .is-tuned .ensures (c .if1 .taken) in
+    s .pre (key .0) ∙ (λ i. tuningOf (a .code) (record { 0 = key .1 i }) (keyOf (a .reference) (key .2 i)))
+
+returns-2 : tie.Need-returns-2
+unfolding keyOf ofBits round
+returns-2 c = c .tuned .ensures
+
+pub retune-spec : {M : Type 1} → statement M
+retune-spec =
+    tie.close
+    (tie.spec
+    (λ c κs. tt) returns (λ c κs. tt) returns-2)

@@ -1,0 +1,4 @@
+pub mod Kernels
+pub mod Tuning
+pub mod Laws
+pub mod Keeping

@@ -1,0 +1,191 @@
+// What a kernel has of the pitch and the character alone, or PoleZero of the pitch, X and Y, kept from frame to frame and worked out
+// again when one of them changes.
+ghost use mathlib.Core.Path.{_≡_};
+ghost use mathlib.Core.Bool.{true, false};
+ghost use lib.ListN.{getD};
+ghost use lib.Ieee.{nan, isNan};
+ghost use Rattle.kernels.specs.Tuning.{threeNumbers, djNumbers, diodeNumbers, drivenNumbers, combNumbers, bandNumbers, multimodeNumbers, k35Numbers, numbersOf, tuningOf, keyOf, Kept, KeptSections};
+ghost use Rattle.poles.specs.Numbers.{poleNumbers};
+use combs::Comb2;
+use expanders::Expander;
+use expanders::K35;
+use extended::Settings;
+use filter::Pitch;
+use filter::Ratio;
+use ladders::DiodeLadder;
+use ladders::DrivenLadder;
+use stages::Five;
+use sweeps::DjSweep;
+
+// A structure's numbers; a place that it has no use for is 0.
+pub struct Numbers(
+    pub f32,
+    pub f32,
+    pub f32,
+    pub f32,
+    pub f32,
+    pub f32,
+    pub f32,
+    pub f32,
+);
+
+fn three_numbers(a: f32, b: f32, c: f32) -> Numbers
+    ensures { λ r. ⌜ r ≡ threeNumbers a b c ⌝ }
+{
+    Numbers(a, b, c, 0.0, 0.0, 0.0, 0.0, 0.0)
+}
+
+fn dj_numbers(c: DjSweep) -> Numbers
+    ensures { λ r. ⌜ r ≡ djNumbers c ⌝ }
+{
+    three_numbers(c.g, c.low_side, c.wet)
+}
+
+fn diode_numbers(c: DiodeLadder) -> Numbers
+    ensures { λ r. ⌜ r ≡ diodeNumbers c ⌝ }
+{
+    Numbers(c.g, c.e, c.r1, c.a1, c.r2, c.a2, c.r3, 0.0)
+}
+
+fn driven_numbers(c: DrivenLadder) -> Numbers
+    ensures { λ r. ⌜ r ≡ drivenNumbers c ⌝ }
+{
+    let ladder = c.ladder;
+    three_numbers(ladder.g, c.drive, c.full)
+}
+
+fn comb_numbers(c: Comb2) -> Numbers
+    ensures { λ r. ⌜ r ≡ combNumbers c ⌝ }
+{
+    three_numbers(c.first, c.second, 0.0)
+}
+
+fn band_numbers(c: Expander) -> Numbers
+    ensures { λ r. ⌜ r ≡ bandNumbers c ⌝ }
+{
+    three_numbers(c.gg, c.h, c.gg4)
+}
+
+fn multimode_numbers(c: Expander, w: Five) -> Numbers
+    ensures { λ r. ⌜ r ≡ multimodeNumbers c w ⌝ }
+{
+    Numbers(c.gg, c.h, c.gg4, w.0, w.1, w.2, w.3, w.4)
+}
+
+fn k35_numbers(c: K35) -> Numbers
+    ensures { λ r. ⌜ r ≡ k35Numbers c ⌝ }
+{
+    three_numbers(c.gg, c.h, c.w)
+}
+
+fn numbers_of(code: u32, pitch: Pitch, p: Settings) -> Numbers
+    ensures { λ r. ⌜ r ≡ numbersOf code pitch p ⌝ }
+{
+    let reference = p.ref_over_rate;
+    match code {
+        2 => dj_numbers(sweeps::dj_coefficients(pitch, p)),
+        5 => diode_numbers(ladders::acid_coefficients(pitch, p)),
+        6 => diode_numbers(ladders::clean_coefficients(pitch, p)),
+        7 => driven_numbers(ladders::driven_coefficients(pitch, p)),
+        8 => three_numbers(0.0, 0.0, 0.0),
+        9 => comb_numbers(combs::comb_coefficients(pitch, p)),
+        10 => multimode_numbers(
+            expanders::expander_coefficients(pitch, p),
+            expanders::multimode_weights(p.character),
+        ),
+        11 => band_numbers(expanders::expander_coefficients(pitch, p)),
+        12 => k35_numbers(expanders::k35_coefficients(pitch, p)),
+        _ => three_numbers(filter::gain(pitch, reference), 0.0, 0.0),
+    }
+}
+
+// Whether two numbers are no NaN and have the same bits.
+fn same(a: f32, b: f32) -> bool
+    ensures { λ r. ⌜ (r ≡ true → (isNan a ≡ false) × (a ≡ b)) ⌝ }
+{
+    if a != a {
+        return false;
+    }
+    if b != b {
+        return false;
+    }
+    f32::to_bits(a) == f32::to_bits(b)
+}
+
+// Whether the kept numbers are those of this pitch and character.
+fn is_tuned(tuning: &[f32; 10], pitch: f32, character: f32) -> bool
+    ensures { λ r. ⌜ (r ≡ true → (isNan (getD (now (tuning .entry)) 8 nan) ≡ false) × (getD (now (tuning .entry)) 8 nan ≡ pitch) × (getD (now (tuning .entry)) 9 nan ≡ character)) ⌝ }
+{
+    if same(tuning[8], pitch) {
+        return same(tuning[9], character);
+    }
+    false
+}
+
+// The numbers of a pitch and a character.
+fn tuned(code: u32, pitch: Pitch, p: Settings) -> [f32; 10]
+    ensures { λ r. ⌜ r ≡ tuningOf code pitch p ⌝ }
+{
+    let n = numbers_of(code, pitch, p);
+    [n.0, n.1, n.2, n.3, n.4, n.5, n.6, n.7, pitch.0, p.character]
+}
+
+// Brings the kept numbers to this pitch and character.
+pub fn retune(code: u32, tuning: &mut [f32; 10], pitch: Pitch, reference: Ratio, character: f32)
+    requires { ⌜ Kept code reference (now tuning) ⌝ }
+    ensures { λ _. ⌜ now (tuning .exit) ≡ tuningOf code pitch (keyOf reference character) ⌝ }
+{
+    if is_tuned(tuning, pitch.0, character) {
+        return;
+    }
+    let next = tuned(
+        code,
+        pitch,
+        Settings {
+            resonance: 0.0,
+            inv_knee: 0.0,
+            character: character,
+            x: 0.0,
+            y: 0.0,
+            ref_over_rate: reference,
+            reference_ratio: reference,
+        },
+    );
+    *tuning = next;
+}
+
+// Whether the kept numbers of the sections are those of this pitch, X and Y.
+fn is_blended(blended: &[f32; 43], pitch: f32, x: f32, y: f32) -> bool
+    ensures { λ r. ⌜ (r ≡ true → (isNan (getD (now (blended .entry)) 40 nan) ≡ false) × (getD (now (blended .entry)) 40 nan ≡ pitch) × (getD (now (blended .entry)) 41 nan ≡ x) × (getD (now (blended .entry)) 42 nan ≡ y)) ⌝ }
+{
+    if same(blended[40], pitch) {
+        if same(blended[41], x) {
+            return same(blended[42], y);
+        }
+    }
+    false
+}
+
+// Brings the sections' kept numbers to this pitch, X and Y. Only PoleZero (code 8) has sections.
+pub fn blend_sections(
+    code: u32,
+    blended: &mut [f32; 43],
+    sections: &[f32; 160],
+    active: u32,
+    reference: Ratio,
+    pitch: Pitch,
+    x: f32,
+    y: f32,
+)
+    requires { ⌜ KeptSections (now sections) active reference (now blended) ⌝ }
+    ensures { λ _. ⌜ (code ≡ 8 → now (blended .exit) ≡ poleNumbers (now (sections .entry)) active reference pitch x y) × (KeptSections (now (sections .entry)) active reference (now (blended .exit))) ⌝ }
+{
+    if code != 8 {
+        return;
+    }
+    if is_blended(blended, pitch.0, x, y) {
+        return;
+    }
+    let next = poles::pole_numbers(sections, active, reference, pitch, x, y);
+    *blended = next;
+}

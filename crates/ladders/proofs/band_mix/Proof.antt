@@ -1,9 +1,0 @@
--- `ladders::band_mix` meets its contract: the operations are the definition's.
-use lib.Ieee.{ofBits, round}
-use Rattle.ladders.specs.Ladders.{bandMix}
-use Rattle.ladders.proofs.band_mix.Statement.{statement}
-use Rattle.ladders.proofs.band_mix.Tie as tie
-
-pub band-mix-spec : {M : Type 1} → statement M
-unfolding bandMix ofBits round
-band-mix-spec = tie.close (tie.spec (λ c. cc))

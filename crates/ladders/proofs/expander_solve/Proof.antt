@@ -1,9 +1,0 @@
--- `ladders::expander_solve` meets its contract: the operations are the definition's.
-use lib.Ieee.{ofBits, round}
-use Rattle.ladders.specs.Ladders.{expanderSolve}
-use Rattle.ladders.proofs.expander_solve.Statement.{statement}
-use Rattle.ladders.proofs.expander_solve.Tie as tie
-
-pub expander-solve-spec : {M : Type 1} → statement M
-unfolding expanderSolve ofBits round
-expander-solve-spec = tie.close (tie.spec (λ c. cc))

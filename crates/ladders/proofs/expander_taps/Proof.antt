@@ -1,9 +1,0 @@
--- `ladders::expander_taps` meets its contract: each call gives its part of the definition.
-use borrow.Author.Needs.{needs}
-use Rattle.ladders.specs.Ladders.{expanderTaps}
-use Rattle.ladders.proofs.expander_taps.Statement.{statement}
-use Rattle.ladders.proofs.expander_taps.Tie as tie
-
-pub expander-taps-spec : {M : Type 1} → statement M
-unfolding expanderTaps
-expander-taps-spec = tie.close (tie.spec (λ c. search needs) (λ c κs. tt) (λ c κs. tt) (λ c κs. tt) (λ c. cc))

@@ -1,9 +1,0 @@
--- `ladders::expander_with` meets its contract: the operations are the definition's.
-use lib.Ieee.{ofBits, round}
-use Rattle.ladders.specs.Ladders.{expanderWith}
-use Rattle.ladders.proofs.expander_with.Statement.{statement}
-use Rattle.ladders.proofs.expander_with.Tie as tie
-
-pub expander-with-spec : {M : Type 1} → statement M
-unfolding expanderWith ofBits round
-expander-with-spec = tie.close (tie.spec (λ c. cc))

@@ -1,9 +1,0 @@
--- `ladders::k35_den` meets its contract: the operations are the definition's.
-use lib.Ieee.{ofBits, round}
-use Rattle.ladders.specs.Ladders.{k35Den}
-use Rattle.ladders.proofs.k35_den.Statement.{statement}
-use Rattle.ladders.proofs.k35_den.Tie as tie
-
-pub k35-den-spec : {M : Type 1} → statement M
-unfolding k35Den ofBits round
-k35-den-spec = tie.close (tie.spec (λ c. cc))

@@ -1,8 +1,0 @@
--- `ladders::k35_high` meets its contract: the operations are the definition's.
-use Rattle.ladders.specs.Ladders.{k35High}
-use Rattle.ladders.proofs.k35_high.Statement.{statement}
-use Rattle.ladders.proofs.k35_high.Tie as tie
-
-pub k35-high-spec : {M : Type 1} → statement M
-unfolding k35High
-k35-high-spec = tie.close (tie.spec (λ c. cc))

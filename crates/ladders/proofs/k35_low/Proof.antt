@@ -1,8 +1,0 @@
--- `ladders::k35_low` meets its contract: the operations are the definition's.
-use Rattle.ladders.specs.Ladders.{k35Low}
-use Rattle.ladders.proofs.k35_low.Statement.{statement}
-use Rattle.ladders.proofs.k35_low.Tie as tie
-
-pub k35-low-spec : {M : Type 1} → statement M
-unfolding k35Low
-k35-low-spec = tie.close (tie.spec (λ c. cc))

@@ -1,8 +1,0 @@
--- `ladders::k35_step` meets its contract: each call gives its part of the definition.
-use Rattle.ladders.specs.Ladders.{k35Step}
-use Rattle.ladders.proofs.k35_step.Statement.{statement}
-use Rattle.ladders.proofs.k35_step.Tie as tie
-
-pub k35-step-spec : {M : Type 1} → statement M
-unfolding k35Step
-k35-step-spec = tie.close (tie.spec (λ c κs. tt) (λ c κs. tt) (λ c κs. tt) (λ c. (cc, cc)))

@@ -1,9 +1,0 @@
--- `ladders::k35_with` meets its contract: the operations are the definition's.
-use lib.Ieee.{ofBits, round}
-use Rattle.ladders.specs.Ladders.{k35With}
-use Rattle.ladders.proofs.k35_with.Statement.{statement}
-use Rattle.ladders.proofs.k35_with.Tie as tie
-
-pub k35-with-spec : {M : Type 1} → statement M
-unfolding k35With ofBits round
-k35-with-spec = tie.close (tie.spec (λ c. cc))

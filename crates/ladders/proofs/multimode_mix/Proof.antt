@@ -1,9 +1,0 @@
--- `ladders::multimode_mix` meets its contract: the operations are the definition's.
-use lib.Ieee.{ofBits, round}
-use Rattle.ladders.specs.Ladders.{multimodeMix}
-use Rattle.ladders.proofs.multimode_mix.Statement.{statement}
-use Rattle.ladders.proofs.multimode_mix.Tie as tie
-
-pub multimode-mix-spec : {M : Type 1} → statement M
-unfolding multimodeMix ofBits round
-multimode-mix-spec = tie.close (tie.spec (λ c. cc))
