@@ -21,7 +21,7 @@ count "layout (rt fmt --check)" rt fmt --check
 [ "$failed" -eq 0 ] || finish
 
 log=$(mktemp)
-rt ci | tee "$log"
+RT_JOBS=${RT_JOBS:-6} rt ci | tee "$log"
 read -r n _ m _ < <(tail -n 1 "$log")
 rm -f "$log"
 case "$n$m" in *[!0-9]* | '') n=0 m=1 ;; esac

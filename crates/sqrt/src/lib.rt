@@ -1,7 +1,10 @@
 // The square root of an f32 (document 01, Floats): NaN, infinity and both zeros as themselves, a negative number NaN,
 // else the f32 nearest the true root. Whole numbers decide: a first guess opens, and comparisons of squares correct it.
 ghost use mathlib.Core.Path.{_≡_};
-ghost use Prim.Native.Nat.{_+_, _*_, _^_, _<_, _≤_};
+ghost use mathlib.Core.Bool.{true};
+ghost use lib.Dec.{T};
+ghost use lib.Ieee.{binary32, fits};
+ghost use Prim.Native.Nat.{_+_, _-_, _*_, _/_, _^_, _<_, _≤_};
 ghost use Rattle.sqrt.specs.Root.{rootOf, rootUnits, NearestWhole};
 ghost use Rattle.sqrt.specs.Openings as Openings;
 
@@ -66,8 +69,28 @@ fn finite_root(t: &[u8; 1024], m: u64, e: u32) -> f32
     f32::from_bits((e / 2 - 1) * 8388608 + (n as u32))
 }
 
-// The root, with the table lent. Whatever the table holds, the answer is the root; `openings()` makes it quick.
-pub fn root_in(x: f32, t: &[u8; 1024]) -> f32
+// A guess at √x in single precision, by one step of Halley's rule: g + 2g(x - g²) / (3g² + x). g is the table's entry plus 5/8 as
+// above, with the root's exponent, which stands in `base`. An f32 and no more is promised: `is_nearest` judges it.
+fn quick_guess(t: &[u8; 1024], x: f32, m: u64, base: u32) -> f32
+    requires { ⌜ (m < 281474976710656) × (base ≤ 1585446912) ⌝ }
+    ensures { λ r. ⌜ T (fits binary32 r) ⌝ }
+{
+    let j = (m >> 38) as usize;
+    let g = f32::from_bits(base + (wide(t[j]) as u32) * 65536 + 40960);
+    let a = g * g;
+    g + (x - a) * (g + g) / (3.0 * a + x)
+}
+
+// Whether n is the whole number nearest to √m.
+fn is_nearest(m: u64, n: u64) -> bool
+    requires { ⌜ (70368744177664 ≤ m) × (m ≤ 281474959933440) × (n < 4294967296) ⌝ }
+    ensures { λ r. ⌜ (r ≡ true → NearestWhole m n) ⌝ }
+{
+    std::num::wrapping_sub_u64(m + n - 1, n * n) < n + n
+}
+
+// The root of any number, by whole numbers.
+fn whole_root(x: f32, t: &[u8; 1024]) -> f32
     ensures { λ r. ⌜ r ≡ rootOf x ⌝ }
 {
     if x != x {
@@ -88,6 +111,40 @@ pub fn root_in(x: f32, t: &[u8; 1024]) -> f32
     }
     let k = u32::leading_zeros(b) - 8;
     finite_root(t, (b as u64) << k, 128 - k)
+}
+
+// Where the root's significand goes: the pattern of a root of 24 digits n is base + n.
+fn base_of(e: u32) -> u32
+    requires { ⌜ (105 ≤ e) × (e ≤ 381) ⌝ }
+    ensures { λ r. ⌜ r ≡ (e / 2 - 1) * 8388608 ⌝ }
+{
+    (e / 2 - 1) * 8388608
+}
+
+// The root, with the table lent. Whatever the table holds, the answer is the root; `openings()` makes it quick. Of a normal number
+// the quick guess is the answer where it is the root.
+pub fn root_in(x: f32, t: &[u8; 1024]) -> f32
+    ensures { λ r. ⌜ r ≡ rootOf x ⌝ }
+{
+    if x != x {
+        return x;
+    }
+    let b = f32::to_bits(x);
+    if b >= 8388608 {
+        if b < 2139095040 {
+            let e = b / 8388608 + 127;
+            let m = ((b % 8388608 + 8388608) as u64) << (23 + e % 2);
+            let base = base_of(e);
+            let r = quick_guess(t, x, m, base);
+            if r == r {
+                let n = std::num::wrapping_sub_u32(f32::to_bits(r), base);
+                if is_nearest(m, n as u64) {
+                    return r;
+                }
+            }
+        }
+    }
+    whole_root(x, t)
 }
 
 // The root, for a caller that has no table.

@@ -1,16 +1,16 @@
--- `root_in` meets its contract: each test of the code is a case of the definition (Cases.antt), and a subnormal number is brought to 24 digits. Assumes nothing.
+-- `root_in` meets its contract: a quick guess that passes the test is the root, and any other number's is `whole_root`'s. Assumes nothing.
 use mathlib.Core.Path.{_≡_, sym, ap, _∙_, subst}
-use Prim.Native.Nat.{ℕ, _-_, _+_, _*_, _%_, _^_, _<_, _≤_}
+use mathlib.Core.Bool.{Bool, true, false, not, true≢false, false≢true}
+use Prim.Native.Nat.{ℕ, _-_, _+_, _*_, _/_, _%_, _^_, _<_, _≤_}
 use native.Mathlib.Nat.{mod-eq-of-lt}
 use native.Mathlib.Omega.{arith}
 use lib.Dec.{T}
-use lib.Count.{leadingZeros}
-use lib.Ieee.{Float, binary32, fits, ofBits, toBits}
-use lib.Ieee.Bits.{ofBits-toBits}
-use lib.Ieee.Positive.{positive}
-use Rattle.sqrt.specs.Root.{rootOf, rootUnits}
-use Rattle.bits.specs.Patterns.{not-nan, none-above}
-use Rattle.sqrt.proofs.Cases.{nan-stays, negative, stays, normal-case, Normalized, normalize, small-case}
+use lib.Ieee.{Float, nan, inf, fin, binary32, fits, ofBits, toBits, eq, isNan}
+use lib.Ieee.Bits.{ofBits-toBits, toBits-lt}
+use Rattle.sqrt.specs.Root.{rootOf, rootUnits, NearestWhole}
+use Rattle.bits.specs.Patterns.{not-nan, pack}
+use Rattle.sqrt.proofs.Isqrt.{Split, split, scaled-root}
+use Rattle.sqrt.proofs.Cases.{nan-stays, normal-case}
 use borrow.Author.Needs.{needs}
 use Rattle.sqrt.proofs.root_in.Statement.{statement}
 use Rattle.sqrt.proofs.root_in.Tie as tie
@@ -19,102 +19,96 @@ use Rattle.sqrt.proofs.root_in.Tie as tie
 held : (c : tie.Start) → T (fits binary32 (c .args .x))
 held c = subst T (sym (c .good .0 .1)) tt
 
-small : (x : Float) → (toBits binary32 x ≡ 0 → ⊥) → toBits binary32 x < 8388608 → (8 ≤ leadingZeros 32 (toBits binary32 x)) × Normalized (toBits binary32 x) (leadingZeros 32 (toBits binary32 x) - 8)
-small x n h = normalize (toBits binary32 x) (omega arith) h
+itself : (x : Float) → eq x x ≡ true → T (not (isNan x))
+unfolding eq isNan
+itself nan h = absurd (false≢true h)
+itself (inf s) h = tt
+itself (fin s m e) h = tt
 
-whole : {b k : ℕ} → Normalized b k → b * 2 ^ k % 18446744073709551616 ≡ b * 2 ^ k
-whole {b} {k} v = mod-eq-of-lt (wide (b * 2 ^ k) (v .most))
+-- the exponent and the scaled significand of a normal number's pattern
+abbrev exponent : ℕ → ℕ
+exponent b = b / 8388608 + 127
+
+abbrev scaled : ℕ → ℕ
+scaled b = (b % 8388608 + 8388608) * 2 ^ (23 + exponent b % 2)
+
+parts : (b : ℕ) → 8388608 ≤ b → b < 2139095040 → Split (b % 8388608 + 8388608) (exponent b) (scaled b)
+parts b h k = split (b % 8388608 + 8388608) (exponent b) (omega arith) (omega arith) (omega arith)
+
+-- the shift loses no digit
+whole : (b : ℕ) → 8388608 ≤ b → b < 2139095040 → scaled b % 18446744073709551616 ≡ scaled b
+whole b h k = mod-eq-of-lt (wide (scaled b) (parts b h k .high))
   where
-    wide : (a : ℕ) → a < 16777216 → a < 18446744073709551616
+    wide : (a : ℕ) → a ≤ 281474959933440 → a < 18446744073709551616
     wide a h = omega arith
 
-zero-stays : (x : Float) → T (fits binary32 x) → toBits binary32 x ≡ 0 → x ≡ rootOf x
-unfolding ofBits rootOf
-zero-stays x f h = let e : x ≡ ofBits binary32 0 = sym (ofBits-toBits binary32 x f) ∙ ap (ofBits binary32) h in e ∙ ap rootOf (sym e)
+-- a pattern that n and the base make
+joined : (p base n : ℕ) → p < 4294967296 → n < 16777216 → base ≤ 1585446912 → (n + base) % 4294967296 ≡ p → p ≡ base + n
+joined p base n a b h e = omega arith
 
-returns : tie.Need-returns
-returns c = nan-stays (c .before .args .x) (c .if1 .taken)
+-- an f32 whose digits are the nearest is the root
+nearest-is : (x r : Float) (n : ℕ) → T (fits binary32 x) → T (fits binary32 r)
+    → 8388608 ≤ toBits binary32 x → toBits binary32 x < 2139095040
+    → NearestWhole (scaled (toBits binary32 x)) n
+    → toBits binary32 r ≡ (exponent (toBits binary32 x) / 2 - 1) * 8388608 + n
+    → r ≡ rootOf x
+nearest-is x r n f g h k v e =
+    let b = toBits binary32 x in
+    sym (ofBits-toBits binary32 r g)
+    ∙ ap (ofBits binary32) e
+    ∙ pack n (exponent b / 2 - 1) (v .low) (v .high) (omega arith)
+    ∙ sym (scaled-root (b % 8388608 + 8388608) (exponent b) (scaled b) n (omega arith) (omega arith) (parts b h k) v)
+    ∙ sym (normal-case b h k)
+    ∙ ap rootOf (ofBits-toBits binary32 x f)
+
+quick-guess-requires : tie.Need-quick-guess-requires
+quick-guess-requires c κs =
+    let b = toBits binary32 (c .before .before .before .before .args .x) in
+    let h : 8388608 ≤ b = search needs in
+    let k : b < 2139095040 = search needs in
+    let w = parts b h k .high in
+    let e = c .base-of .ensures in
+    (subst (λ (z : ℕ). z < 281474976710656) (sym (whole b h k)) (omega (arith, w)), omega arith)
+
+is-nearest-requires : tie.Need-is-nearest-requires
+is-nearest-requires c κs =
+    let s = c .before .before .before .before .before .before .before in
+    let b = toBits binary32 (s .args .x) in
+    let h : 8388608 ≤ b = c .before .before .before .before .before .if2 .taken in
+    let k : b < 2139095040 = c .before .before .before .before .if3 .taken in
+    let p = parts b h k in
+    (subst (λ (z : ℕ). 70368744177664 ≤ z) (sym (whole b h k)) (p .low), subst (λ (z : ℕ). z ≤ 281474959933440) (sym (whole b h k)) (p .high), omega arith)
 
 returns-2 : tie.Need-returns-2
-returns-2 c = negative (c .before .before .args .x) (c .if2 .taken)
-
-float-to-bits-b : tie.Need-float-to-bits-b
-float-to-bits-b c = not-nan (c .before .before .args .x) (c .before .if1 .left)
-
-returns-3 : tie.Need-returns-3
-returns-3 c =
-    let x = c .before .before .before .args .x in
-    stays x (c .before .if2 .left) (ap positive (sym (ofBits-toBits binary32 x (held (c .before .before .before)))) ∙ none-above (toBits binary32 x) (c .if3 .taken))
-
-add-finite-root : tie.Need-add-finite-root
-add-finite-root c = search needs
-
-cast-finite-root : tie.Need-cast-finite-root
-cast-finite-root c = search needs
-
-add-finite-root-2 : tie.Need-add-finite-root-2
-add-finite-root-2 c = search needs
-
-finite-root-requires : tie.Need-finite-root-requires
-finite-root-requires c κs = search needs
-
-returns-4 : tie.Need-returns-4
-returns-4 c =
-    let x = c .before .before .before .before .before .args .x in
-    c .finite-root .ensures ∙ sym (normal-case (toBits binary32 x) (search needs) (search needs)) ∙ ap rootOf (ofBits-toBits binary32 x (held (c .before .before .before .before .before)))
-
-returns-5 : tie.Need-returns-5
-returns-5 c = zero-stays (c .before .before .before .before .before .args .x) (held (c .before .before .before .before .before)) (c .if5 .taken)
-
-sub-k : tie.Need-sub-k
-sub-k c = small (c .before .before .before .before .before .args .x) (search needs) (search needs) .0
-
-cast-finite-root-2 : tie.Need-cast-finite-root-2
-cast-finite-root-2 c = search needs
-
-cast-finite-root-3 : tie.Need-cast-finite-root-3
-cast-finite-root-3 c = let v = small (c .before .before .before .before .before .args .x) (search needs) (search needs) .1 in let h = v .high in omega arith
-
-shl-finite-root : tie.Need-shl-finite-root
-shl-finite-root c = let v = small (c .before .before .before .before .before .args .x) (search needs) (search needs) .1 in let h = v .high in omega arith
-
-sub-finite-root : tie.Need-sub-finite-root
-sub-finite-root c = let v = small (c .before .before .before .before .before .args .x) (search needs) (search needs) .1 in let h = v .high in omega arith
-
-finite-root-requires-2 : tie.Need-finite-root-requires-2
-finite-root-requires-2 c κs =
-    let v = small (c .before .before .before .before .before .args .x) (search needs) (search needs) .1 in
-    (subst (λ (z : ℕ). 8388608 ≤ z) (sym (whole v)) (v .least), subst (λ (z : ℕ). z < 16777216) (sym (whole v)) (v .most), (let h = v .high in omega arith), (let h = v .low in omega arith))
-
-returns-6 : tie.Need-returns-6
-returns-6 c =
-    let x = c .before .before .before .before .before .before .args .x in
+returns-2 c =
+    let s = c .before .before .before .before .before .before .before .before .before in
+    let x = s .args .x in
     let b = toBits binary32 x in
-    let k = leadingZeros 32 b - 8 in
-    let v = small x (search needs) (search needs) .1 in
-    c .finite-root2 .ensures
-    ∙ ap (λ (z : ℕ). rootUnits (z * 2 ^ (128 - k + 21))) (whole v)
-    ∙ sym (small-case b k (search needs) (search needs) (v .high))
-    ∙ ap rootOf (ofBits-toBits binary32 x (held (c .before .before .before .before .before .before)))
+    let h : 8388608 ≤ b = c .before .before .before .before .before .before .before .if2 .taken in
+    let k : b < 2139095040 = c .before .before .before .before .before .before .if3 .taken in
+    let guess = c .before .before .before .before .quick-guess in
+    let base = c .before .before .before .before .before .base-of in
+    let n = c .before .before .wrapping-sub-u32 .result in
+    let v : NearestWhole (scaled b) n = subst (λ (m : ℕ). NearestWhole m n) (whole b h k) (c .before .is-nearest .ensures (c .if5 .taken)) in
+    let low = base .ensures in
+    let high = v .high in
+    nearest-is x (guess .result) n (held s) (guess .ensures) h k v
+    (joined (toBits binary32 (guess .result)) (base .result) n (toBits-lt binary32 (guess .result) (guess .ensures)) high (omega arith) (c .before .before .wrapping-sub-u32 .ensures)
+    ∙ ap (λ (z : ℕ). z + n) low)
 
 pub root-in-spec : {M : Type 1} → statement M
 root-in-spec =
     tie.close
     (tie.spec
-    returns
+    (λ c. nan-stays (c .before .args .x) (c .if1 .taken))
+    (λ c. not-nan (c .before .args .x) (c .if1 .left))
+    (λ c. search needs) (λ c. search needs) (λ c. search needs) (λ c. search needs) (λ c. search needs) (λ c. search needs)
+    (λ c κs. search needs)
+    quick-guess-requires
+    (λ c. itself _ (c .if4 .taken))
+    (λ c κs. tt)
+    (λ c. search needs)
+    is-nearest-requires
     returns-2
-    float-to-bits-b
-    returns-3
-    add-finite-root
-    cast-finite-root
-    add-finite-root-2
-    finite-root-requires
-    returns-4
-    returns-5
-    sub-k
-    cast-finite-root-2
-    cast-finite-root-3
-    shl-finite-root
-    sub-finite-root
-    finite-root-requires-2
-    returns-6)
+    (λ c κs. tt)
+    (λ c. c .whole-root .ensures))
