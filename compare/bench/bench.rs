@@ -10,6 +10,51 @@ unsafe extern "C" {
         steered: bool, x: *const f32, x_len: usize, y: *const f32, y_len: usize, audio: *mut f32, audio_len: usize, rendered: *mut usize) -> u32;
     fn sentivolus_openings(t: *mut [u8; 1024]);
     fn sentivolus_root(x: f32, t: *const [u8; 1024]) -> f32;
+    fn sentivolus_saturation_gain(x: f32, inv_a: f32, t: *const [u8; 1024]) -> f32;
+    fn sentivolus_soft_clip(x: f32) -> f32;
+    fn sentivolus_gain(pitch: f32, reference: f32) -> f32;
+    fn sentivolus_read(buf: *const f32, buf_len: usize, len: usize, cursor: usize, slot: usize, delay: f32) -> f32;
+}
+
+/// ns a call of a leaf, the calls independent of each other.
+fn leaf(call: &dyn Fn(f32) -> f32, low: f32, high: f32) -> f64 {
+    let mut r = generate::Rng::new(9);
+    let inputs: Vec<f32> = (0..1024).map(|_| r.range(low, high)).collect();
+    let mut best = f64::MAX;
+    for _ in 0..200 {
+        let begun = Instant::now();
+        let mut sum = 0.0;
+        for x in &inputs { sum += call(*x); }
+        std::hint::black_box(sum);
+        best = best.min(begun.elapsed().as_nanos() as f64 / inputs.len() as f64);
+    }
+    best
+}
+
+/// Where a voice-sample's time goes, by ablation: a PoleZero without sections has the smoothing, steering, lag, drive, mix and level
+/// alone; a moving pitch adds what follows from the pitch; the leaves are timed by themselves.
+fn parts(millis: u128) {
+    let mut t = [0u8; 1024];
+    unsafe { sentivolus_openings(&mut t) };
+    let ring = vec![0.25f32; 8192];
+    let gain = leaf(&|x| unsafe { sentivolus_gain(x, 440.0 / 48000.0) }, 50.0, 90.0);
+    let saturation = leaf(&|x| unsafe { sentivolus_saturation_gain(x, 0.5, &t) }, -3.0, 3.0);
+    let clip = leaf(&|x| unsafe { sentivolus_soft_clip(x) }, -3.0, 3.0);
+    let read = leaf(&|x| unsafe { sentivolus_read(ring.as_ptr(), 8192, 8192, 77, 0, x) }, 10.0, 400.0);
+    println!("Leaves, ns a call: gain (exp2 and tan) {gain:.1}, saturation_gain (root) {saturation:.1}, soft_clip {clip:.1}, read {read:.1}\n");
+    let mut bare = case(8, 48000.0, 16, 2, 64, false);
+    bare.engine.table = Table::of(&PoleZeroDesign::default());
+    let base = measure(&bare, millis).0;
+    println!("| code | held | of it: smoothing, steering, lag, drive, mix | roots | ring | rest of the kernel | moving pitch adds |");
+    println!("|---|---|---|---|---|---|---|");
+    for code in 1..=12u32 {
+        let held = measure(&case(code, 48000.0, 16, 2, 64, false), millis).0;
+        let moving = measure(&case(code, 48000.0, 16, 2, 64, true), millis).0;
+        let roots = saturation * [1.0, 0.0, 0.0, 5.0, 1.0, 1.0, 5.0, 0.0, 0.0, 1.0, 1.0, 2.0][code as usize - 1];
+        let ring = if code == 9 { 2.0 * read } else { 0.0 };
+        println!("| {code} {:?} | {held:.1} | {base:.1} | {roots:.1} | {ring:.1} | {:.1} | {:.1} |", KINDS[code as usize - 1], held - base - roots - ring, moving - held);
+    }
+    println!();
 }
 
 /// ns a root in a dependent chain: ours and the machine's.
@@ -87,6 +132,7 @@ fn measure(c: &Case, millis: u128) -> (f64, f64) {
 
 pub fn main() {
     let millis = std::env::var("MILLIS").ok().and_then(|m| m.parse().ok()).unwrap_or(300);
+    parts(millis);
     println!("| code | pitch | voices x channels / frames: ours, Rust (ratio) | | | |");
     println!("|---|---|---|---|---|---|");
     println!("| | | 1x1/64 | 1x1/4096 | 16x2/64 | 16x2/4096 |");
