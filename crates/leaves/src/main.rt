@@ -5,11 +5,11 @@ ghost use Prim.Native.Nat.{_<_, _≤_};
 use filter::Pitch;
 use filter::Ratio;
 use filter::VoiceParams;
+use points::Point;
+use points::PointKind;
+use points::State;
 use pole_zero::Answer;
-use pole_zero::Point;
-use pole_zero::PointKind;
 use pole_zero::PoleZeroDesign;
-use pole_zero::State;
 use pole_zero::Table;
 
 // A point that was read, and the word after it; not ok where the words are no point.

@@ -10,10 +10,10 @@ use lib.ListN.{length, replicate}
 use Rattle.lane.specs.Floats.{whole, zero}
 use Rattle.lane.specs.Lane.{clampOf, pow10Of}
 use Rattle.parts.specs.Parts.{upto, upto-count, patch, length-patch}
-use Rattle.pole_zero.specs.declared.Section.{Section}
+use Rattle.points.specs.Points.{clampOr, isBypass, defaultState}
 use Rattle.pole_zero.specs.declared.PoleZeroDesign.{PoleZeroDesign}
 use Rattle.pole_zero.specs.declared.Table.{Table}
-use Rattle.pole_zero.specs.PoleZero.{clampOr, termsOf, bilinearOf, isBypass, isBypassed, defaultState, defaultDesign, gainOf, emptyTable, withPoint, tableOf}
+use Rattle.pole_zero.specs.PoleZero.{termsOf, bilinearOf, isBypassed, defaultDesign, gainOf, emptyTable, withPoint, tableOf}
 
 -- a point has 20 terms
 pub length-bilinear : (design : PoleZeroDesign) (point : ℕ) → length (bilinearOf design point) ≡ 20

@@ -8,10 +8,10 @@ use lib.ListN.{getD}
 use lib.Ieee.{Float, nan}
 use Rattle.parts.specs.Parts.{tab}
 use Rattle.filter.specs.declared.Stage.{Stage}
-use Rattle.pole_zero.specs.declared.PointKind.{PointKind}
-use Rattle.pole_zero.specs.declared.PointKind.the-variants.{HighPass, LowPass, Bypass, AllPass, BandPass, Notch, Bell, Free}
-use Rattle.pole_zero.specs.declared.Point.{Point}
-use Rattle.pole_zero.specs.declared.State.{State}
+use Rattle.points.specs.declared.PointKind.{PointKind}
+use Rattle.points.specs.declared.PointKind.the-variants.{HighPass, LowPass, Bypass, AllPass, BandPass, Notch, Bell, Free}
+use Rattle.points.specs.declared.Point.{Point}
+use Rattle.points.specs.declared.State.{State}
 use Rattle.pole_zero.specs.declared.PoleZeroDesign.{PoleZeroDesign}
 use Rattle.pole_zero.specs.PoleZero.{sectionRefusal, sectionValues}
 

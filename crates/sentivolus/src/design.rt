@@ -1,13 +1,14 @@
 // The pole-zero design as flat numbers: 32 kind numbers and 128 floats (frequency, Q, a, b), state by state, point by point.
 ghost use mathlib.Core.Path.{_≡_};
 ghost use Prim.Native.Nat.{_<_};
-ghost use Rattle.pole_zero.specs.PoleZero.{sectionOf, values, tableOf, sectionRefusal, sectionValues};
+ghost use Rattle.points.specs.Points.{sectionOf, values};
+ghost use Rattle.pole_zero.specs.PoleZero.{tableOf, sectionRefusal, sectionValues};
 ghost use Rattle.sentivolus.specs.Design.{kindOf, pointOf, stateOf, designOf, sectionLeft};
+use points::Point;
+use points::PointKind;
+use points::State;
 use pole_zero::Answer;
-use pole_zero::Point;
-use pole_zero::PointKind;
 use pole_zero::PoleZeroDesign;
-use pole_zero::State;
 use pole_zero::Table;
 
 fn kind_of(kind: u32, a: f32, b: f32) -> PointKind

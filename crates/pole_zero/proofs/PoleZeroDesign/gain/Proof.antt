@@ -6,4 +6,4 @@ use Rattle.pole_zero.proofs.PoleZeroDesign.gain.Tie as tie
 
 pub gain-spec : {M : Type 1} → statement M
 unfolding gainOf ofBits round
-gain-spec = tie.close (tie.spec (λ c κs. tt) (λ c κs. tt) (λ c. cc))
+gain-spec = tie.close (tie.spec (λ c κs. tt) (λ c κs. tt) (λ c. rw (c .pow10 .ensures, c .before .clamp-or .ensures)))

@@ -14,7 +14,8 @@ unfolding refusalOf valuesOf sectionRefusal sectionValues ofBits round
 returns c =
     let point = c .before .before .before .before .before .args .point in
     let e : ltb point 8 ≡ true = lt-ltb point 8 (omega arith) in
-    (rw e, rw e (cc))
+    let b = c .before in
+    (rw e, rw (e, c .blended .ensures, b .clamp2 .ensures, b .before .clamp .ensures, b .before .before .bilinear .ensures))
 
 returns-2 : tie.Need-returns-2
 unfolding refusalOf valuesOf sectionRefusal sectionValues

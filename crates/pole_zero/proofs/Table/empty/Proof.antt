@@ -6,4 +6,4 @@ use Rattle.pole_zero.proofs.Table.empty.Tie as tie
 
 pub empty-spec : {M : Type 1} → statement M
 unfolding emptyTable ofBits round
-empty-spec = tie.close (tie.spec (λ c κs. tt) (λ c. cc))
+empty-spec = tie.close (tie.spec (λ c κs. tt) (λ c. rw (c .gain .ensures)))

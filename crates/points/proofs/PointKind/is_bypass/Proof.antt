@@ -5,12 +5,12 @@ use mathlib.Core.Bool.{false}
 use mathlib.Core.List.{[], _∷_}
 use types.Run.{OneOf, miss}
 use denote.Enum.Declared.{tagOf}
-use Rattle.pole_zero.specs.PoleZero.{isBypass}
-use Rattle.pole_zero.specs.declared.PointKind.{PointKind}
-use Rattle.pole_zero.specs.declared.PointKind.the-variants.{HighPass, LowPass, Bypass, AllPass, BandPass, Notch, Bell, Free}
-use Rattle.pole_zero.proofs.PointKind.{the-type}
-use Rattle.pole_zero.proofs.PointKind.is_bypass.Statement.{statement}
-use Rattle.pole_zero.proofs.PointKind.is_bypass.Tie as tie
+use Rattle.points.specs.Points.{isBypass}
+use Rattle.points.specs.declared.PointKind.{PointKind}
+use Rattle.points.specs.declared.PointKind.the-variants.{HighPass, LowPass, Bypass, AllPass, BandPass, Notch, Bell, Free}
+use Rattle.points.proofs.PointKind.{the-type}
+use Rattle.points.proofs.PointKind.is_bypass.Statement.{statement}
+use Rattle.points.proofs.PointKind.is_bypass.Tie as tie
 
 -- what the last arm is told: any kind but a bypass
 other : (k : PointKind) → OneOf (0 ∷ 1 ∷ 3 ∷ 4 ∷ 5 ∷ 6 ∷ 7 ∷ []) (tagOf the-type k) → false ≡ isBypass k

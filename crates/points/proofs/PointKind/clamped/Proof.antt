@@ -5,12 +5,12 @@ use mathlib.Core.List.{[], _∷_}
 use types.Run.{OneOf, miss}
 use denote.Enum.Declared.{tagOf}
 use lib.Ieee.{ofBits, round}
-use Rattle.pole_zero.specs.PoleZero.{clampedKind}
-use Rattle.pole_zero.specs.declared.PointKind.{PointKind}
-use Rattle.pole_zero.specs.declared.PointKind.the-variants.{HighPass, LowPass, Bypass, AllPass, BandPass, Notch, Bell, Free}
-use Rattle.pole_zero.proofs.PointKind.{the-type}
-use Rattle.pole_zero.proofs.PointKind.clamped.Statement.{statement}
-use Rattle.pole_zero.proofs.PointKind.clamped.Tie as tie
+use Rattle.points.specs.Points.{clampedKind}
+use Rattle.points.specs.declared.PointKind.{PointKind}
+use Rattle.points.specs.declared.PointKind.the-variants.{HighPass, LowPass, Bypass, AllPass, BandPass, Notch, Bell, Free}
+use Rattle.points.proofs.PointKind.{the-type}
+use Rattle.points.proofs.PointKind.clamped.Statement.{statement}
+use Rattle.points.proofs.PointKind.clamped.Tie as tie
 
 -- what the last arm is told: a kind that carries nothing
 other : (k : PointKind) → OneOf (0 ∷ 1 ∷ 2 ∷ 3 ∷ 4 ∷ 5 ∷ []) (tagOf the-type k) → k ≡ clampedKind k

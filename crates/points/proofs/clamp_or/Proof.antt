@@ -1,8 +1,8 @@
 -- `clamp_or` meets its contract: by the test for a NaN.
 use Rattle.bits.specs.Nan.{nan-is}
-use Rattle.pole_zero.specs.PoleZero.{clampOr}
-use Rattle.pole_zero.proofs.clamp_or.Statement.{statement}
-use Rattle.pole_zero.proofs.clamp_or.Tie as tie
+use Rattle.points.specs.Points.{clampOr}
+use Rattle.points.proofs.clamp_or.Statement.{statement}
+use Rattle.points.proofs.clamp_or.Tie as tie
 
 pub clamp-or-spec : {M : Type 1} → statement M
 unfolding clampOr

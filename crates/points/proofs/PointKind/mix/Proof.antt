@@ -1,9 +1,9 @@
 -- `PointKind::mix` meets its contract: arm by arm, the operations are the definition's.
 use borrow.Author.Needs.{needs}
 use lib.Ieee.{ofBits, round}
-use Rattle.pole_zero.specs.PoleZero.{mixOf}
-use Rattle.pole_zero.proofs.PointKind.mix.Statement.{statement}
-use Rattle.pole_zero.proofs.PointKind.mix.Tie as tie
+use Rattle.points.specs.Points.{mixOf}
+use Rattle.points.proofs.PointKind.mix.Statement.{statement}
+use Rattle.points.proofs.PointKind.mix.Tie as tie
 
 pub mix-spec : {M : Type 1} → statement M
 unfolding mixOf ofBits round

@@ -1,8 +1,8 @@
 -- `Point::clamped` meets its contract: field by field, by the calls' contracts.
 use lib.Ieee.{ofBits, round}
-use Rattle.pole_zero.specs.PoleZero.{clamped}
-use Rattle.pole_zero.proofs.Point.clamped.Statement.{statement}
-use Rattle.pole_zero.proofs.Point.clamped.Tie as tie
+use Rattle.points.specs.Points.{clamped}
+use Rattle.points.proofs.Point.clamped.Statement.{statement}
+use Rattle.points.proofs.Point.clamped.Tie as tie
 
 pub clamped-spec : {M : Type 1} → statement M
 unfolding clamped ofBits round
