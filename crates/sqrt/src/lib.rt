@@ -69,16 +69,17 @@ fn finite_root(t: &[u8; 1024], m: u64, e: u32) -> f32
     f32::from_bits((e / 2 - 1) * 8388608 + (n as u32))
 }
 
-// A guess at √x in single precision, by one step of Halley's rule: g + 2g(x - g²) / (3g² + x). g is the table's entry plus 5/8 as
-// above, with the root's exponent, which stands in `base`. An f32 and no more is promised: `is_nearest` judges it.
+// A guess at √x in single precision, by two steps of Newton's rule in one: g + (x - g²)(x + 3g²) / (4g(x + g²)). g is the table's entry
+// with the root's exponent, which stands in `base`. An f32 and no more is promised: `is_nearest` judges it.
 fn quick_guess(t: &[u8; 1024], x: f32, m: u64, base: u32) -> f32
     requires { ⌜ (m < 281474976710656) × (base ≤ 1585446912) ⌝ }
     ensures { λ r. ⌜ T (fits binary32 r) ⌝ }
 {
     let j = (m >> 38) as usize;
-    let g = f32::from_bits(base + (wide(t[j]) as u32) * 65536 + 40960);
+    let g = f32::from_bits(base + (wide(t[j]) as u32) * 65536);
     let a = g * g;
-    g + (x - a) * (g + g) / (3.0 * a + x)
+    let s = x + a;
+    g + (x - a) * ((s + (a + a)) / (4.0 * g * s))
 }
 
 // Whether n is the whole number nearest to √m.
