@@ -1,17 +1,15 @@
 -- What the bank's code answers and leaves, read as the calls of voices/specs/Calls (document 01). Definitions only.
 use mathlib.Core.Path.{_≡_}
 use Prim.Native.Nat.{ℕ}
-use mathlib.Core.Bool.{Bool}
 use mathlib.Core.List.{List, [], _∷_}
 use lib.Ieee.{Float}
 use Rattle.filter.specs.declared.VoiceParams.{VoiceParams}
 use Rattle.voices.specs.Calls.{Check, fine, refused, Bank, Block, callSet, callStart, callBlock, Answer, refusedCall, kept, rendered, Run, openOf, openVerdict, call}
-use Rattle.bank.specs.declared.Setup.{Setup}
+use Rattle.checks.specs.declared.Setup.{Setup}
+use Rattle.checks.specs.Setup.{engine}
+use Rattle.checks.specs.Checks.{bankOf}
 use Rattle.bank.specs.declared.Answer.{Answer as CodeAnswer}
 use Rattle.bank.specs.declared.Answer.the-variants.{Refused, Kept, Rendered}
-use Rattle.bank.specs.declared.Verdict.{Verdict}
-use Rattle.bank.specs.declared.Verdict.the-variants.{Fine, Refused as Refusal}
-use Rattle.bank.specs.Setup.{engine}
 
 -- ---- answers: document 01's number and values for each case
 
@@ -27,18 +25,7 @@ cursorOf (Refused k) given = given
 cursorOf (Kept cursor) given = cursor
 cursorOf (Rendered cursor frames) given = cursor
 
--- what the checks of a call come to
-unfoldable pub checkOf : Verdict → Check
-checkOf Fine = fine
-checkOf (Refusal k) = refused k
-
--- ---- a call's lists and cursor
-
-abbrev pub bankOf : (targets records delay : List Float) (cursor : ℕ) → Bank
-bankOf tg rs ds cur = record { targets = tg; records = rs; delay = ds; cursor = cur }
-
-abbrev pub blockFrom : (frames : ℕ) (pitch : List Float) (steered : Bool) (x y audio : List Float) → Block
-blockFrom f p st x y a = record { frames = f; pitch = p; steered = st; x = x; y = y; audio = a }
+-- ---- a call's lists and cursor, as a run
 
 -- a run of no calls yet
 abbrev pub before : Bank → Run

@@ -8,8 +8,8 @@ use Rattle.slots.specs.Engine.{SoloSetup, engineOf, engine-laws}
 use Rattle.voices.specs.Calls.{Check, fine, refused, Engine, Bank, Call, callSet, callStart, callBlock, Run, openVerdict, verdict, perform, call, opened, run}
 use Rattle.voices.specs.Feed.{feed, Same, Alike}
 use Rattle.voices.specs.Voice.{theorem, corollary}
-use Rattle.bank.specs.declared.Setup.{Setup}
-use Rattle.bank.specs.Setup.{soloOf, engine}
+use Rattle.checks.specs.declared.Setup.{Setup}
+use Rattle.checks.specs.Setup.{soloOf, engine}
 use Rattle.bank.specs.Bank.{before}
 
 -- In a bank that opened by the setup s on any lent lists b, after any calls xs, refused or not, each voice v is the plain voice of

@@ -16,8 +16,8 @@ use Rattle.parts.specs.Parts.{tab, piece, patch}
 use Rattle.slots.specs.Engine.{referenceRefused, setupCheckOf}
 use Rattle.voices.specs.Calls.{targetsWidth, recordWidth, fine, refused, check, _then_, Bank, Block, Call, callSet, callStart, callBlock, setOf, startSlot, startOf, openOf, openVerdict, verdict, opened}
 use Rattle.voices.specs.Feed.{Frame, eventSet, eventStart, eventFrame, feed}
-use Rattle.bank.specs.declared.Setup.{Setup}
-use Rattle.bank.specs.Setup.{engine}
+use Rattle.checks.specs.declared.Setup.{Setup}
+use Rattle.checks.specs.Setup.{engine}
 
 -- two mono voices of DjSweep at a rate of 8,000, with any table
 setup : Table → Setup

@@ -1,4 +1,3 @@
-pub mod Setup
 pub mod Bank
 pub mod Demand3
 pub mod Example

@@ -16,11 +16,12 @@ use Rattle.lines.specs.Lines.{ringLen}
 use Rattle.slots.specs.Engine.{setupCheckOf}
 use Rattle.voices.specs.Calls.{targetsWidth, recordWidth, fine, check, _then_, Bank, Block, callBlock, Answer, kept, rendered, Run, openOf, blockOf, openVerdict, verdict, cursorAfter}
 use Rattle.voices.specs.Accepted.{Lengths}
-use Rattle.bank.specs.declared.Setup.{Setup}
+use Rattle.checks.specs.declared.Setup.{Setup}
+use Rattle.checks.specs.Setup.{soloOf, engine}
+use Rattle.checks.specs.Checks.{bankOf, blockFrom}
 use Rattle.bank.specs.declared.Answer.{Answer as CodeAnswer}
 use Rattle.bank.specs.declared.Answer.the-variants.{Refused, Kept, Rendered}
-use Rattle.bank.specs.Setup.{soloOf, engine}
-use Rattle.bank.specs.Bank.{answerOf, cursorOf, bankOf, blockFrom, after, openBy, OpenDoes, BlockDoes}
+use Rattle.bank.specs.Bank.{answerOf, cursorOf, after, openBy, OpenDoes, BlockDoes}
 use Rattle.impulses.specs.Impulse.{rateOf, setupOf, steadyPitch, silence, impulseOf, renderedOf, responseOf}
 use Rattle.impulses.specs.Cells.{ring-fits}
 use Rattle.impulses.proofs.Verdicts.{Accepted, rate-is}

@@ -11,7 +11,7 @@ use Rattle.lines.specs.Lines.{rateRefused}
 use Rattle.slots.specs.Engine.{referenceRefused, within, setupCheckOf}
 use Rattle.voices.specs.Calls.{Check, fine, refused, check, _then_}
 use Rattle.voices.specs.Accepted.{check-fine, then-fine, and-true}
-use Rattle.bank.specs.Setup.{soloOf}
+use Rattle.checks.specs.Setup.{soloOf}
 use Rattle.impulses.specs.declared.Verdict.{Verdict}
 use Rattle.impulses.specs.declared.Verdict.the-variants.{Fine, Large, Refused}
 use Rattle.impulses.specs.Impulse.{rateOf, setupOf, afterSetup, checked, verdictOf}

@@ -11,9 +11,9 @@ use Rattle.lines.specs.Lines.{ringLen}
 use Rattle.pole_zero.specs.PoleZero.{defaultDesign, tableOf}
 use Rattle.slots.specs.Engine.{within, setupCheckOf}
 use Rattle.voices.specs.Calls.{Check, fine, refused, leastFrames, mostFrames, targetsWidth, recordWidth, openOf, blockOf}
-use Rattle.bank.specs.declared.Setup.{Setup}
-use Rattle.bank.specs.Setup.{soloOf, engine}
-use Rattle.bank.specs.Bank.{bankOf, blockFrom}
+use Rattle.checks.specs.declared.Setup.{Setup}
+use Rattle.checks.specs.Setup.{soloOf, engine}
+use Rattle.checks.specs.Checks.{bankOf, blockFrom}
 use Rattle.text.specs.declared.Span.{Span}
 use Rattle.text.specs.declared.Number.{Number}
 use Rattle.text.specs.declared.Number.the-variants.{Value as Number·Value, Refused as Number·Refused}

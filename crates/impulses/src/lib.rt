@@ -8,7 +8,7 @@ ghost use Rattle.impulses.specs.declared.Verdict.the-variants.{Fine};
 ghost use Rattle.impulses.specs.declared.Request.the-variants.{Asked};
 ghost use Rattle.lines.specs.Lines.{ringLen};
 ghost use Rattle.impulses.specs.Impulse.{shortDecimal, asked, lineRequest, requestOf, rateOf, setupOf, cells, afterSetup, verdictOf, sampleText, samplesText, lineText, largeText, refusedText, steadyPitch, silence, impulseOf, renderedOf, responseOf, answerText, impulseText};
-use bank::Setup;
+use checks::Setup;
 use text::Number;
 use text::Span;
 

@@ -6,7 +6,7 @@
 ghost use Prim.Native.Nat.{_<_, _≤_};
 ghost use lib.ListN.{length};
 use bank::Answer;
-use bank::Setup;
+use checks::Setup;
 use filter::VoiceParams;
 use pole_zero::Table;
 use text::Span;

@@ -5,10 +5,10 @@ use native.Mathlib.Omega.{arith}
 use mathlib.Core.List.{List, [], _∷_}
 use lib.Ieee.{Float}
 use Rattle.voices.specs.Calls.{Check, fine, refused, Bank, Block, Run, Answer, refusedCall, callBlock, perform, call, verdict}
-use Rattle.bank.specs.declared.Setup.{Setup}
+use Rattle.checks.specs.declared.Setup.{Setup}
+use Rattle.checks.specs.Setup.{engine}
 use Rattle.bank.specs.declared.Answer.{Answer as CodeAnswer}
 use Rattle.bank.specs.declared.Answer.the-variants.{Refused, Kept, Rendered}
-use Rattle.bank.specs.Setup.{engine}
 use Rattle.bank.specs.Bank.{answerOf, cursorOf, before, after, BlockDoes}
 use Rattle.sentivolus.specs.Calls.{numberOf, framesOr, numberIn, framesIn, audioIn, ListsLeft, BlockLeft}
 

@@ -6,7 +6,7 @@ use mathlib.Core.Bool.{Bool}
 use mathlib.Core.List.{List, [], _∷_}
 use lib.Ieee.{Float}
 use Rattle.voices.specs.Calls.{Answer, refusedCall, kept, rendered, Run}
-use Rattle.bank.specs.declared.Setup.{Setup}
+use Rattle.checks.specs.declared.Setup.{Setup}
 use Rattle.bank.specs.declared.Answer.{Answer as CodeAnswer}
 use Rattle.bank.specs.declared.Answer.the-variants.{Refused, Kept, Rendered}
 

@@ -2,11 +2,12 @@
 ghost use mathlib.Core.Path.{_≡_};
 ghost use mathlib.Core.List.{[]};
 ghost use Rattle.voices.specs.Calls.{callSet, callStart, callBlock, call, openVerdict};
-ghost use Rattle.bank.specs.Setup.{engine};
-ghost use Rattle.bank.specs.Bank.{bankOf, blockFrom, before, cursorOf, openBy};
+ghost use Rattle.checks.specs.Setup.{engine};
+ghost use Rattle.checks.specs.Checks.{bankOf, blockFrom};
+ghost use Rattle.bank.specs.Bank.{before, cursorOf, openBy};
 ghost use Rattle.sentivolus.specs.Calls.{setupOf, numberOf, framesOr, numberIn, ListsLeft, BlockLeft};
 use bank::Answer;
-use bank::Setup;
+use checks::Setup;
 use filter::VoiceParams;
 use pole_zero::Table;
 

@@ -8,11 +8,12 @@ use native.Mathlib.Omega.{arith}
 use borrow.Author.Needs.{needs}
 use denote.Ref.{now}
 use Rattle.lines.specs.Lines.{isLength}
-use Rattle.voices.specs.Calls.{fine, callBlock, verdict, rendered, cursorAfter}
+use Rattle.voices.specs.Calls.{fine, BlockRun, callBlock, verdict, rendered, cursorAfter, blockOf}
 use Rattle.voices.specs.Accepted.{BlockAccepted, block-accepted}
-use Rattle.bank.specs.Setup.{soloOf, engine}
-use Rattle.bank.specs.Bank.{answerOf, cursorOf, bankOf, blockFrom}
-use Rattle.bank.proofs.Checks.{SetupAccepted, setup-accepted, refused-by, fine-by}
+use Rattle.checks.specs.Setup.{soloOf, engine}
+use Rattle.checks.specs.Checks.{bankOf, blockFrom}
+use Rattle.checks.specs.Accepted.{SetupAccepted, setup-accepted, refused-by, fine-by}
+use Rattle.bank.specs.Bank.{answerOf, cursorOf}
 use Rattle.bank.proofs.block.Statement.{statement}
 use Rattle.bank.proofs.block.Tie as tie
 
@@ -57,12 +58,15 @@ returns : tie.Need-returns
 unfolding answerOf cursorOf
 returns c = record { does = rw (refused-by (c .before .before .before .block-check .ensures) (c .before .checked .given .1)); keeps = λ k e. refl }
 
+-- the lists and the cursor that the two calls left are the definitions'
 returns-2 : tie.Need-returns-2
 unfolding answerOf cursorOf cursorAfter
 returns-2 c =
     let a = c .before .before .before .before .before .before .before .before .before .before .before .before .before .before .before .before .before .before .before .before .before .before .before .before .before .before .before .before .before .before .before .before .args in
-    let w = c .before .before .before .before .before .before .before .run-block .ensures in
-    let cur = c .cursor-after .ensures in
+    let q = blockFrom (a .frames) (now (a .pitch)) (a .steered) (now (a .x)) (now (a .y)) (now (a .audio)) in
+    let b = bankOf (now (a .targets)) (now (a .records)) (now (a .delay)) (a .cursor) in
+    let w : _≡_ {A = BlockRun} _ (blockOf (engine (a .setup)) (a .setup .voices) q b) = c .before .before .before .before .before .before .before .run-block .ensures in
+    let cur : _≡_ {A = ℕ} _ (cursorAfter (engine (a .setup)) (a .cursor) (a .frames)) = c .cursor-after .ensures in
     record {
       does = rw (accepted (c .before .before .before .before .before .before .before .before .before .before .before .before .before .before .before .before .before .before .before)) (λ i. record { bank = bankOf (now (a .targets)) (w i .records) (w i .delay) (cur i); log = rendered (cur i) (a .frames) (w i .audio) ∷ [] });
       keeps = λ k e. let z : _≡_ {A = ℕ} 0 1 = cc in absurd (omega arith);

@@ -12,10 +12,10 @@ use Rattle.filter.specs.declared.VoiceParams.{VoiceParams}
 use Rattle.filter.specs.Voice.{defaultParams, voiceTargets}
 use Rattle.parts.specs.Parts.{upto, patch}
 use Rattle.voices.specs.Calls.{targetsWidth, Bank, setOf, startOf, openOf}
-use Rattle.bank.specs.declared.Setup.{Setup}
-use Rattle.bank.specs.Setup.{engine}
-use Rattle.bank.specs.Bank.{bankOf}
-use Rattle.bank.proofs.Checks.{setup-accepted}
+use Rattle.checks.specs.declared.Setup.{Setup}
+use Rattle.checks.specs.Setup.{engine}
+use Rattle.checks.specs.Checks.{bankOf}
+use Rattle.checks.specs.Accepted.{setup-accepted}
 use Rattle.bank.proofs.open_voices.Statement.{statement}
 use Rattle.bank.proofs.open_voices.Tie as tie
 

@@ -11,9 +11,9 @@ use lib.ListN.{length, replicate}
 use Rattle.parts.specs.Parts.{upto, piece, patch, piece-fits}
 use Rattle.voices.specs.Calls.{targetsWidth, statesWidth, recordWidth, positiveZero, Engine, startSlot, startOf}
 use Rattle.slots.specs.Frame.{targets-piece}
-use Rattle.bank.specs.Setup.{engine}
-use Rattle.bank.specs.Bank.{bankOf}
-use Rattle.bank.proofs.Checks.{setup-accepted}
+use Rattle.checks.specs.Setup.{engine}
+use Rattle.checks.specs.Checks.{bankOf}
+use Rattle.checks.specs.Accepted.{setup-accepted}
 use Rattle.bank.proofs.start_voice.Statement.{statement}
 use Rattle.bank.proofs.start_voice.Tie as tie
 

@@ -3,9 +3,10 @@ use mathlib.Core.Path.{_≡_, subst}
 use denote.Ref.{now}
 use borrow.Author.Needs.{needs}
 use Rattle.voices.specs.Calls.{callBlock, call}
-use Rattle.bank.specs.declared.Setup.{Setup}
-use Rattle.bank.specs.Setup.{engine}
-use Rattle.bank.specs.Bank.{bankOf, blockFrom, before}
+use Rattle.checks.specs.declared.Setup.{Setup}
+use Rattle.checks.specs.Setup.{engine}
+use Rattle.checks.specs.Checks.{bankOf, blockFrom}
+use Rattle.bank.specs.Bank.{before}
 use Rattle.sentivolus.specs.Calls.{BlockLeft}
 use Rattle.sentivolus.proofs.Left.{block-left}
 use Rattle.sentivolus.proofs.calls.sentivolus_block.Statement.{statement}

@@ -4,9 +4,10 @@ use mathlib.Core.List.{[]}
 use denote.Ref.{now}
 use borrow.Author.Needs.{needs}
 use Rattle.voices.specs.Calls.{openVerdict}
-use Rattle.bank.specs.declared.Setup.{Setup}
-use Rattle.bank.specs.Setup.{engine}
-use Rattle.bank.specs.Bank.{bankOf, openBy}
+use Rattle.checks.specs.declared.Setup.{Setup}
+use Rattle.checks.specs.Setup.{engine}
+use Rattle.checks.specs.Checks.{bankOf}
+use Rattle.bank.specs.Bank.{openBy}
 use Rattle.sentivolus.specs.Calls.{ListsLeft}
 use Rattle.sentivolus.proofs.Left.{lists-left}
 use Rattle.sentivolus.proofs.calls.sentivolus_open.Statement.{statement}

@@ -1,4 +1,4 @@
--- `bank::setup_check` meets its contract: at each return the tests before it passed, and this one did not.
+-- `checks::setup_check` meets its contract: at each return the tests before it passed, and this one did not.
 use mathlib.Core.Path.{_≡_, sym, _∙_}
 use mathlib.Core.Bool.{true, false}
 use native.Mathlib.Omega.{arith}
@@ -6,10 +6,10 @@ use borrow.Author.Tests.{le-leb, lt-leb}
 use Rattle.lines.specs.Lines.{rateRefused}
 use Rattle.slots.specs.Engine.{referenceRefused, within, setupCheckOf}
 use Rattle.voices.specs.Calls.{check, _then_}
-use Rattle.bank.specs.Bank.{checkOf}
-use Rattle.bank.proofs.Checks.{passes, fails}
-use Rattle.bank.proofs.setup_check.Statement.{statement}
-use Rattle.bank.proofs.setup_check.Tie as tie
+use Rattle.checks.specs.Checks.{checkOf}
+use Rattle.checks.proofs.Laws.{passes, fails}
+use Rattle.checks.proofs.setup_check.Statement.{statement}
+use Rattle.checks.proofs.setup_check.Tie as tie
 
 rate : (c : tie.Else1) → rateRefused (c .before .before .args .setup .rate) ≡ false
 rate c = sym (c .before .rate-refused .ensures) ∙ c .if1 .left

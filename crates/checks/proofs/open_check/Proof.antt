@@ -1,4 +1,4 @@
--- `bank::open_check` meets its contract: at each return the tests before it passed, and this one did not. The products are small, as
+-- `checks::open_check` meets its contract: at each return the tests before it passed, and this one did not. The products are small, as
 -- the setup was accepted.
 use mathlib.Core.Path.{sym}
 use Prim.Native.Nat.{_*_, _≤_}
@@ -6,11 +6,12 @@ use native.Mathlib.Omega.{arith}
 use borrow.Author.Tests.{eq-eqb, ne-eqb}
 use borrow.Author.Needs.{needs}
 use Rattle.voices.specs.Calls.{check, _then_}
-use Rattle.bank.specs.Setup.{soloOf}
-use Rattle.bank.specs.Bank.{checkOf}
-use Rattle.bank.proofs.Checks.{SetupAccepted, setup-accepted, refused-by, fine-by, after-refused}
-use Rattle.bank.proofs.open_check.Statement.{statement}
-use Rattle.bank.proofs.open_check.Tie as tie
+use Rattle.checks.specs.Setup.{soloOf}
+use Rattle.checks.specs.Checks.{checkOf}
+use Rattle.checks.specs.Accepted.{SetupAccepted, setup-accepted, refused-by, fine-by}
+use Rattle.checks.proofs.Laws.{after-refused}
+use Rattle.checks.proofs.open_check.Statement.{statement}
+use Rattle.checks.proofs.open_check.Tie as tie
 
 known : (c : tie.After-enum-told) → SetupAccepted (soloOf (c .before .before .before .before .before .before .args .setup)) (c .before .before .before .before .before .before .args .setup .voices)
 known c = setup-accepted _ _ (fine-by (c .before .before .setup-check .ensures) (c .enum-told .given .1))

@@ -1,12 +1,13 @@
--- `bank::start_check` meets its contract: the checks of open, and then the voice's.
+-- `checks::start_check` meets its contract: the checks of open, and then the voice's.
 use mathlib.Core.Path.{sym, _∙_}
 use borrow.Author.Tests.{lt-ltb, le-ltb}
 use borrow.Author.Needs.{needs}
 use Rattle.voices.specs.Calls.{check}
-use Rattle.bank.specs.Bank.{checkOf}
-use Rattle.bank.proofs.Checks.{refused-by, fine-by, after-two-refused, after-two-fine}
-use Rattle.bank.proofs.start_check.Statement.{statement}
-use Rattle.bank.proofs.start_check.Tie as tie
+use Rattle.checks.specs.Checks.{checkOf}
+use Rattle.checks.specs.Accepted.{refused-by, fine-by}
+use Rattle.checks.proofs.Laws.{after-two-refused, after-two-fine}
+use Rattle.checks.proofs.start_check.Statement.{statement}
+use Rattle.checks.proofs.start_check.Tie as tie
 
 pub start-check-spec : {M : Type 1} → statement M
 unfolding checkOf check

@@ -1,7 +1,7 @@
 -- A bank's setup and its polyphony apart (document 01, 'A bank is opened'). Definitions only.
 use Rattle.slots.specs.Engine.{SoloSetup, engineOf}
 use Rattle.voices.specs.Calls.{Engine}
-use Rattle.bank.specs.declared.Setup.{Setup}
+use Rattle.checks.specs.declared.Setup.{Setup}
 
 -- the setup without its voices
 abbrev pub soloOf : Setup → SoloSetup

@@ -1,9 +1,9 @@
--- `bank::reference_refused` meets its contract: by the three tests, where `x != x` is the test for a NaN.
+-- `checks::reference_refused` meets its contract: by the three tests, where `x != x` is the test for a NaN.
 use lib.Ieee.{ofBits, round}
 use Rattle.bits.specs.Nan.{nan-is}
 use Rattle.slots.specs.Engine.{referenceRefused}
-use Rattle.bank.proofs.reference_refused.Statement.{statement}
-use Rattle.bank.proofs.reference_refused.Tie as tie
+use Rattle.checks.proofs.reference_refused.Statement.{statement}
+use Rattle.checks.proofs.reference_refused.Tie as tie
 
 pub reference-refused-spec : {M : Type 1} → statement M
 unfolding referenceRefused ofBits round

@@ -1,4 +1,4 @@
--- `bank::block_check` meets its contract: the checks of open; then at each return the tests before it passed, and this one did not.
+-- `checks::block_check` meets its contract: the checks of open; then at each return the tests before it passed, and this one did not.
 -- The products are small, as setup and frames were accepted.
 use mathlib.Core.Path.{_≡_, sym, _∙_}
 use mathlib.Core.Bool.{true}
@@ -12,11 +12,12 @@ use denote.Ref.{now}
 use Rattle.slots.specs.Engine.{within}
 use Rattle.voices.specs.Calls.{fine, check, openVerdict}
 use Rattle.voices.specs.Accepted.{then-fine, and-true}
-use Rattle.bank.specs.Setup.{soloOf, engine}
-use Rattle.bank.specs.Bank.{checkOf, bankOf}
-use Rattle.bank.proofs.Checks.{passes, fails, SetupAccepted, setup-accepted, refused-by, fine-by, after-two-refused, third-refused, after-three-fine}
-use Rattle.bank.proofs.block_check.Statement.{statement}
-use Rattle.bank.proofs.block_check.Tie as tie
+use Rattle.checks.specs.Setup.{soloOf, engine}
+use Rattle.checks.specs.Checks.{checkOf, bankOf}
+use Rattle.checks.specs.Accepted.{SetupAccepted, setup-accepted, refused-by, fine-by}
+use Rattle.checks.proofs.Laws.{passes, fails, after-two-refused, third-refused, after-three-fine}
+use Rattle.checks.proofs.block_check.Statement.{statement}
+use Rattle.checks.proofs.block_check.Tie as tie
 
 opened : (c : tie.After-enum-told) → let a = c .before .before .before .before .before .before .before .before .before .before .args in openVerdict (engine (a .setup)) (a .setup .voices) (bankOf (now (a .targets)) (now (a .records)) (now (a .delay)) 0) ≡ fine
 opened c = fine-by (c .before .before .open-check .ensures) (c .enum-told .given .1)

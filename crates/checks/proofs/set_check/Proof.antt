@@ -1,14 +1,15 @@
--- `bank::set_check` meets its contract: at each return the tests before it passed, and this one did not.
+-- `checks::set_check` meets its contract: at each return the tests before it passed, and this one did not.
 use mathlib.Core.Path.{sym, _∙_}
 use native.Mathlib.Omega.{arith}
 use borrow.Author.Tests.{eq-eqb, ne-eqb, lt-ltb, le-ltb}
 use borrow.Author.Needs.{needs}
 use Rattle.voices.specs.Calls.{check, _then_}
-use Rattle.bank.specs.Setup.{soloOf}
-use Rattle.bank.specs.Bank.{checkOf}
-use Rattle.bank.proofs.Checks.{SetupAccepted, setup-accepted, refused-by, fine-by, after-refused}
-use Rattle.bank.proofs.set_check.Statement.{statement}
-use Rattle.bank.proofs.set_check.Tie as tie
+use Rattle.checks.specs.Setup.{soloOf}
+use Rattle.checks.specs.Checks.{checkOf}
+use Rattle.checks.specs.Accepted.{SetupAccepted, setup-accepted, refused-by, fine-by}
+use Rattle.checks.proofs.Laws.{after-refused}
+use Rattle.checks.proofs.set_check.Statement.{statement}
+use Rattle.checks.proofs.set_check.Tie as tie
 
 known : (c : tie.After-enum-told) → SetupAccepted (soloOf (c .before .before .before .before .args .setup)) (c .before .before .before .before .args .setup .voices)
 known c = setup-accepted _ _ (fine-by (c .before .before .setup-check .ensures) (c .enum-told .given .1))

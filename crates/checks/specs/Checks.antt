@@ -1,0 +1,22 @@
+-- What the code of the checks answers, and the lists that it measures, read as those of voices/specs/Calls (document 01, 'A bank is
+-- opened'). Definitions only.
+use Prim.Native.Nat.{ℕ}
+use mathlib.Core.Bool.{Bool}
+use mathlib.Core.List.{List}
+use lib.Ieee.{Float}
+use Rattle.voices.specs.Calls.{Check, fine, refused, Bank, Block}
+use Rattle.checks.specs.declared.Verdict.{Verdict}
+use Rattle.checks.specs.declared.Verdict.the-variants.{Fine, Refused as Refusal}
+
+-- what the checks of a call come to
+unfoldable pub checkOf : Verdict → Check
+checkOf Fine = fine
+checkOf (Refusal k) = refused k
+
+-- ---- a call's lists and cursor
+
+abbrev pub bankOf : (targets records delay : List Float) (cursor : ℕ) → Bank
+bankOf tg rs ds cur = record { targets = tg; records = rs; delay = ds; cursor = cur }
+
+abbrev pub blockFrom : (frames : ℕ) (pitch : List Float) (steered : Bool) (x y audio : List Float) → Block
+blockFrom f p st x y a = record { frames = f; pitch = p; steered = st; x = x; y = y; audio = a }
