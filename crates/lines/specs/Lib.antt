@@ -1,6 +1,7 @@
 pub mod Lines
 pub mod Order
 pub mod Whole
+pub mod Digits
 pub mod Length
 pub mod Delay
 pub mod View

@@ -6,7 +6,7 @@ ghost use Prim.Native.Nat.{_+_, _*_, _%_, _<_, _≤_};
 ghost use lib.ListN.{length, getD};
 ghost use lib.Ieee.{nan};
 ghost use Rattle.parts.specs.Parts.{piece};
-ghost use Rattle.lines.specs.Lines.{rateRefused, nextPower, ringLen, hermiteOf, held, cellOf, tapsOf, isLength, isView, readOf, writeOf};
+ghost use Rattle.lines.specs.Lines.{wholePart, rateRefused, nextPower, ringLen, hermiteOf, held, cellOf, tapsOf, isLength, isView, readOf, writeOf};
 
 // The longest delay a bank's rings hold, in seconds at the rate it's made for.
 const MAX_DELAY_SECONDS: f32 = 0.125;
@@ -107,6 +107,15 @@ fn wrapped(i: usize, len: usize) -> usize
     i & (len - 1)
 }
 
+// The whole part of a delay, by its own bits: the 24 digits without those of the fraction.
+fn whole_part(d: f32) -> u32
+    requires { ⌜ (1 ≤ wholePart d) × (wholePart d ≤ 65536) ⌝ }
+    ensures { λ r. ⌜ r ≡ wholePart d ⌝ }
+{
+    let b = f32::to_bits(d);
+    (b % 8388608 + 8388608) >> (150 - b / 8388608)
+}
+
 // The cell `back` frames before the cursor, of the slot's ring.
 fn cell_at(buf: &[f32], len: usize, cursor: usize, slot: usize, back: usize) -> f32
     requires { ⌜ (isLength len ≡ true) × (slot * len + len ≤ length (now buf)) ⌝ }
@@ -135,7 +144,7 @@ pub fn read_at(buf: &[f32], len: usize, cursor: usize, slot: usize, delay: f32) 
 {
     if is_view(len, slot, buf.len()) {
         let d = held(len, delay);
-        let w = std::num::truncating_f32_to_u64(d);
+        let w = whole_part(d);
         let t = d - w as f32;
         return taps(buf, len, cursor, slot, w as usize, t);
     }

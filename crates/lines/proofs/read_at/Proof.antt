@@ -27,14 +27,14 @@ is-view-requires c κs = search needs
 held-requires : tie.Need-held-requires
 held-requires c κs = let v = view c in (v .least, v .most)
 
-truncating-f32-to-u64-requires : tie.Need-truncating-f32-to-u64-requires
-truncating-f32-to-u64-requires c κs = let d = delay c in (d .above, d .below)
+whole-part-requires : tie.Need-whole-part-requires
+whole-part-requires c κs = let v = view (c .before) in let d = delay c in let l = d .least in let m = d .most in (omega arith, omega arith)
 
 int-to-float-t : tie.Need-int-to-float-t
-int-to-float-t c = let v = view (c .before .before .before) in let d = delay (c .before .before) in exact _ (omega (arith, c .before .truncating-f32-to-u64 .ensures))
+int-to-float-t c = let v = view (c .before .before .before) in let d = delay (c .before .before) in exact _ (omega (arith, c .before .whole-part .ensures))
 
 taps-requires : tie.Need-taps-requires
-taps-requires c κs = let v = view (c .before .before .before) in let d = delay (c .before .before) in let e = c .before .truncating-f32-to-u64 .ensures in (v .size, v .ends, omega arith, omega arith)
+taps-requires c κs = let v = view (c .before .before .before) in let d = delay (c .before .before) in let e = c .before .whole-part .ensures in (v .size, v .ends, omega arith, omega arith)
 
 returns : tie.Need-returns
 unfolding readOf ringRead ofInt
@@ -45,4 +45,4 @@ unfolding readOf ofBits round
 returns-2 c = rw (sym (c .before .is-view .ensures) ∙ c .if1 .left)
 
 pub read-at-spec : {M : Type 1} → statement M
-read-at-spec = tie.close (tie.spec is-view-requires held-requires truncating-f32-to-u64-requires int-to-float-t taps-requires returns returns-2)
+read-at-spec = tie.close (tie.spec is-view-requires held-requires whole-part-requires int-to-float-t taps-requires returns returns-2)
