@@ -8,6 +8,11 @@ unsafe extern "C" {
         active: u32, sections: *const f32, gain: f32, cursor: *mut usize, targets: *const f32, targets_len: usize,
         records: *mut f32, records_len: usize, delay: *mut f32, delay_len: usize, frames: usize, pitch: *const f32, pitch_len: usize,
         steered: bool, x: *const f32, x_len: usize, y: *const f32, y_len: usize, audio: *mut f32, audio_len: usize, rendered: *mut usize) -> u32;
+    fn sentivolus_open(code: u32, rate: f32, reference: f32, voices: usize, channels: usize, clean: bool, active: u32, sections: *const f32,
+        gain: f32, targets: *mut f32, targets_len: usize, records: *mut f32, records_len: usize, delay: *mut f32, delay_len: usize) -> u32;
+    fn sentivolus_start(code: u32, rate: f32, reference: f32, voices: usize, channels: usize, clean: bool, active: u32, sections: *const f32,
+        gain: f32, targets: *const f32, targets_len: usize, records: *mut f32, records_len: usize, delay: *mut f32, delay_len: usize,
+        voice: usize) -> u32;
     fn sentivolus_openings(t: *mut [u8; 1024]);
     fn sentivolus_root(x: f32, t: *const [u8; 1024]) -> f32;
     fn sentivolus_saturation_gain(x: f32, inv_a: f32, t: *const [u8; 1024]) -> f32;
@@ -130,6 +135,29 @@ fn measure(c: &Case, millis: u128) -> (f64, f64) {
     best
 }
 
+/// Microseconds of open, 16 voices stereo, and of start, at a rate.
+fn opening(rate: f32) -> (f64, f64) {
+    let mut e = case(9, rate, 16, 2, 1, false).engine;
+    let sections = [0f32; 160];
+    let mut best = (f64::MAX, f64::MAX);
+    for _ in 0..20 {
+        let t = Instant::now();
+        let refused = unsafe {
+            sentivolus_open(9, rate, 440.0, 16, 2, false, 0, sections.as_ptr(), 1.0, e.t.as_mut_ptr(), e.t.len(), e.r.as_mut_ptr(), e.r.len(),
+                e.d.as_mut_ptr(), e.d.len())
+        };
+        best.0 = best.0.min(t.elapsed().as_nanos() as f64 / 1000.0);
+        let t = Instant::now();
+        let started = unsafe {
+            sentivolus_start(9, rate, 440.0, 16, 2, false, 0, sections.as_ptr(), 1.0, e.t.as_ptr(), e.t.len(), e.r.as_mut_ptr(), e.r.len(),
+                e.d.as_mut_ptr(), e.d.len(), 3)
+        };
+        best.1 = best.1.min(t.elapsed().as_nanos() as f64 / 1000.0);
+        assert_eq!((refused, started), (0, 0));
+    }
+    best
+}
+
 pub fn main() {
     let millis = std::env::var("MILLIS").ok().and_then(|m| m.parse().ok()).unwrap_or(300);
     parts(millis);
@@ -154,5 +182,9 @@ pub fn main() {
     for (what, v, n, frames, rate) in [("1 voice mono, 64 frames", 1, 1, 64, 48000.0), ("4 voices", 4, 1, 64, 48000.0), ("16 voices stereo", 16, 2, 64, 48000.0),
         ("1 frame", 1, 1, 1, 48000.0), ("16 frames", 1, 1, 16, 48000.0), ("4,096 frames", 1, 1, 4096, 48000.0), ("rate 8,000", 1, 1, 64, 8000.0), ("rate 384,000", 1, 1, 64, 384000.0)] {
         println!("- {what}: {:.1}", measure(&case(9, rate, v, n, frames, false), millis).0);
+    }
+    for rate in [8000.0, 48000.0, 384000.0] {
+        let (open, start) = opening(rate);
+        println!("- rate {rate}: open (16 voices stereo) {open:.1} us, start of a voice {start:.1} us");
     }
 }
