@@ -1,4 +1,5 @@
 -- `expanders::expander_solve` meets its contract: the operations are the definition's.
+use mathlib.Core.Path.{refl}
 use lib.Ieee.{ofBits, round}
 use Rattle.expanders.specs.Expanders.{expanderSolve}
 use Rattle.expanders.proofs.expander_solve.Statement.{statement}
@@ -6,4 +7,4 @@ use Rattle.expanders.proofs.expander_solve.Tie as tie
 
 pub expander-solve-spec : {M : Type 1} → statement M
 unfolding expanderSolve ofBits round
-expander-solve-spec = tie.close (tie.spec (λ c. cc))
+expander-solve-spec = tie.close (tie.spec (λ c. refl))

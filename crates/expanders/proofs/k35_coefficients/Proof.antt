@@ -6,4 +6,8 @@ use Rattle.expanders.proofs.k35_coefficients.Tie as tie
 
 pub k35-coefficients-spec : {M : Type 1} → statement M
 unfolding k35Coefficients ofBits round
-k35-coefficients-spec = tie.close (tie.spec (λ c κs. tt) (λ c κs. tt) (λ c. cc))
+k35-coefficients-spec =
+    tie.close
+    (tie.spec
+    (λ c κs. tt) (λ c κs. tt)
+    (λ c. rw (c .unit .ensures, c .before .before .before .before .gain .ensures)))

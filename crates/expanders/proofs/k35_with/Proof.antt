@@ -1,4 +1,5 @@
 -- `expanders::k35_with` meets its contract: the operations are the definition's.
+use mathlib.Core.Path.{refl}
 use lib.Ieee.{ofBits, round}
 use Rattle.expanders.specs.Expanders.{k35With}
 use Rattle.expanders.proofs.k35_with.Statement.{statement}
@@ -6,4 +7,4 @@ use Rattle.expanders.proofs.k35_with.Tie as tie
 
 pub k35-with-spec : {M : Type 1} → statement M
 unfolding k35With ofBits round
-k35-with-spec = tie.close (tie.spec (λ c. cc))
+k35-with-spec = tie.close (tie.spec (λ c. refl))

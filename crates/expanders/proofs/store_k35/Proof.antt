@@ -1,4 +1,5 @@
 -- `expanders::store_k35` meets its contract: the operations are the definition's.
+use mathlib.Core.Path.{refl}
 use borrow.Author.Needs.{needs}
 use Rattle.expanders.specs.Expanders.{k35States}
 use Rattle.expanders.proofs.store_k35.Statement.{statement}
@@ -10,4 +11,4 @@ store-k35-spec =
     tie.close
     (tie.spec
     (λ c. search needs) (λ c. search needs) (λ c. search needs) (λ c. search needs) (λ c. search needs)
-    (λ c. search needs) (λ c. search needs) (λ c. search needs) (λ c. cc))
+    (λ c. search needs) (λ c. search needs) (λ c. search needs) (λ c. refl))

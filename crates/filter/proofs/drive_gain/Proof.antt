@@ -6,4 +6,4 @@ use Rattle.filter.proofs.drive_gain.Tie as tie
 
 pub drive-gain-spec : {M : Type 1} → statement M
 unfolding driveGain ofBits round
-drive-gain-spec = tie.close (tie.spec (λ c κs. tt) (λ c. cc))
+drive-gain-spec = tie.close (tie.spec (λ c κs. tt) (λ c. rw (c .pow10 .ensures)))

@@ -5,4 +5,4 @@ use Rattle.filter.proofs.gain.Tie as tie
 
 pub gain-spec : {M : Type 1} → statement M
 unfolding gainOf
-gain-spec = tie.close (tie.spec (λ c κs. tt) (λ c κs. tt) (λ c. cc))
+gain-spec = tie.close (tie.spec (λ c κs. tt) (λ c κs. tt) (λ c. rw (c .gain-at .ensures, c .before .ratio-of .ensures)))

@@ -6,4 +6,4 @@ use Rattle.filter.proofs.gain_at.Tie as tie
 
 pub gain-at-spec : {M : Type 1} → statement M
 unfolding gainAt ofBits round
-gain-at-spec = tie.close (tie.spec (λ c κs. tt) (λ c. cc))
+gain-at-spec = tie.close (tie.spec (λ c κs. tt) (λ c. rw (c .tan .ensures)))

@@ -6,4 +6,4 @@ use Rattle.filter.proofs.held_unit.Tie as tie
 
 pub held-unit-spec : {M : Type 1} → statement M
 unfolding heldUnit ofBits round
-held-unit-spec = tie.close (tie.spec (λ c κs. tt) (λ c. cc))
+held-unit-spec = tie.close (tie.spec (λ c κs. tt) (λ c. rw (c .clamp .ensures)))

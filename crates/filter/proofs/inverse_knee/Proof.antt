@@ -6,4 +6,4 @@ use Rattle.filter.proofs.inverse_knee.Tie as tie
 
 pub inverse-knee-spec : {M : Type 1} → statement M
 unfolding inverseKnee ofBits round
-inverse-knee-spec = tie.close (tie.spec (λ c κs. tt) (λ c. cc))
+inverse-knee-spec = tie.close (tie.spec (λ c κs. tt) (λ c. rw (c .exp2 .ensures)))

@@ -6,4 +6,4 @@ use Rattle.filter.proofs.level.Tie as tie
 
 pub level-spec : {M : Type 1} → statement M
 unfolding levelOf ofBits round
-level-spec = tie.close (tie.spec (λ c κs. tt) (λ c κs. tt) (λ c. cc))
+level-spec = tie.close (tie.spec (λ c κs. tt) (λ c κs. tt) (λ c. rw (c .max .ensures, c .before .finite-or-0 .ensures)))

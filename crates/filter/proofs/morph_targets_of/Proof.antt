@@ -5,4 +5,8 @@ use Rattle.filter.proofs.morph_targets_of.Tie as tie
 
 pub morph-targets-of-spec : {M : Type 1} → statement M
 unfolding morphTargetsOf
-morph-targets-of-spec = tie.close (tie.spec (λ c κs. tt) (λ c κs. tt) (λ c. cc))
+morph-targets-of-spec =
+    tie.close
+    (tie.spec
+    (λ c κs. tt) (λ c κs. tt)
+    (λ c. rw (c .morph2 .ensures, c .before .morph .ensures)))

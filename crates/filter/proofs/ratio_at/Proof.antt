@@ -6,4 +6,8 @@ use Rattle.filter.proofs.ratio_at.Tie as tie
 
 pub ratio-at-spec : {M : Type 1} → statement M
 unfolding ratioAt ofBits round
-ratio-at-spec = tie.close (tie.spec (λ c κs. tt) (λ c κs. tt) (λ c. cc))
+ratio-at-spec =
+    tie.close
+    (tie.spec
+    (λ c κs. tt) (λ c κs. tt)
+    (λ c. rw (c .min .ensures, c .before .before .exp2 .ensures)))

@@ -5,4 +5,8 @@ use Rattle.filter.proofs.ratio_of.Tie as tie
 
 pub ratio-of-spec : {M : Type 1} → statement M
 unfolding ratioOf
-ratio-of-spec = tie.close (tie.spec (λ c κs. tt) (λ c κs. tt) (λ c. cc))
+ratio-of-spec =
+    tie.close
+    (tie.spec
+    (λ c κs. tt) (λ c κs. tt)
+    (λ c. rw (c .ratio-at .ensures, c .before .octaves-of .ensures)))

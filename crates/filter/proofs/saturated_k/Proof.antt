@@ -5,4 +5,4 @@ use Rattle.filter.proofs.saturated_k.Tie as tie
 
 pub saturated-k-spec : {M : Type 1} → statement M
 unfolding saturatedK
-saturated-k-spec = tie.close (tie.spec (λ c κs. tt) (λ c. cc))
+saturated-k-spec = tie.close (tie.spec (λ c κs. tt) (λ c. rw (c .saturation-gain .ensures)))

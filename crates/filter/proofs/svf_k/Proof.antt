@@ -6,4 +6,4 @@ use Rattle.filter.proofs.svf_k.Tie as tie
 
 pub svf-k-spec : {M : Type 1} → statement M
 unfolding svfK ofBits round
-svf-k-spec = tie.close (tie.spec (λ c κs. tt) (λ c. cc))
+svf-k-spec = tie.close (tie.spec (λ c κs. tt) (λ c. rw (c .max .ensures)))

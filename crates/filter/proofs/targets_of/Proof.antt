@@ -3,10 +3,24 @@ use Rattle.filter.specs.Voice.{targetsOf}
 use Rattle.filter.proofs.targets_of.Statement.{statement}
 use Rattle.filter.proofs.targets_of.Tie as tie
 
-pub targets-of-spec : {M : Type 1} → statement M
+returns : tie.Need-returns
 unfolding targetsOf
+returns c =
+    rw (
+      c .held-unit5 .ensures,
+      c .before .level .ensures,
+      c .before .before .held-unit4 .ensures,
+      c .before .before .before .finite-or-0 .ensures,
+      c .before .before .before .before .inverse-knee .ensures,
+      c .before .before .before .before .before .held-unit3 .ensures,
+      c .before .before .before .before .before .before .drive-gain .ensures,
+      c .before .before .before .before .before .before .before .held-unit2 .ensures,
+      c .before .before .before .before .before .before .before .before .held-unit .ensures,
+    )
+
+pub targets-of-spec : {M : Type 1} → statement M
 targets-of-spec =
     tie.close
     (tie.spec
     (λ c κs. tt) (λ c κs. tt) (λ c κs. tt) (λ c κs. tt) (λ c κs. tt) (λ c κs. tt) (λ c κs. tt) (λ c κs. tt)
-    (λ c κs. tt) (λ c. cc))
+    (λ c κs. tt) returns)

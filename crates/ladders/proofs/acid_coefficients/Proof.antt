@@ -6,4 +6,8 @@ use Rattle.ladders.proofs.acid_coefficients.Tie as tie
 
 pub acid-coefficients-spec : {M : Type 1} → statement M
 unfolding acidCoefficients ofBits round
-acid-coefficients-spec = tie.close (tie.spec (λ c κs. tt) (λ c κs. tt) (λ c. cc))
+acid-coefficients-spec =
+    tie.close
+    (tie.spec
+    (λ c κs. tt) (λ c κs. tt)
+    (λ c. rw (c .diode-rows .ensures, c .before .before .before .gain .ensures)))

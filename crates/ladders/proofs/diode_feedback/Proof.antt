@@ -6,4 +6,8 @@ use Rattle.ladders.proofs.diode_feedback.Tie as tie
 
 pub diode-feedback-spec : {M : Type 1} → statement M
 unfolding diodeFeedback
-diode-feedback-spec = tie.close (tie.spec (λ c. search needs) (λ c κs. tt) (λ c. cc))
+diode-feedback-spec =
+    tie.close
+    (tie.spec
+    (λ c. search needs) (λ c κs. tt)
+    (λ c. rw (c .before .saturation-gain .ensures)))

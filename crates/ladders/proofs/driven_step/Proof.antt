@@ -5,4 +5,11 @@ use Rattle.ladders.proofs.driven_step.Tie as tie
 
 pub driven-step-spec : {M : Type 1} → statement M
 unfolding drivenStep
-driven-step-spec = tie.close (tie.spec (λ c κs. tt) (λ c κs. tt) (λ c. (cc, cc)))
+driven-step-spec =
+    tie.close
+    (tie.spec
+    (λ c κs. tt) (λ c κs. tt)
+    (λ c. (
+      rw (c .transistor-step .ensures .0, c .before .before .before .soft-clip .ensures),
+      rw (c .transistor-step .ensures .1, c .before .before .before .soft-clip .ensures),
+    )))

@@ -6,4 +6,4 @@ use Rattle.ladders.proofs.stage_gain.Tie as tie
 
 pub stage-gain-spec : {M : Type 1} → statement M
 unfolding stageGain ofBits round
-stage-gain-spec = tie.close (tie.spec (λ c κs. tt) (λ c. cc))
+stage-gain-spec = tie.close (tie.spec (λ c κs. tt) (λ c. rw (c .saturation-gain .ensures)))

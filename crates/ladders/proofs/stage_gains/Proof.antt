@@ -3,6 +3,15 @@ use Rattle.ladders.specs.Ladders.{stageGains}
 use Rattle.ladders.proofs.stage_gains.Statement.{statement}
 use Rattle.ladders.proofs.stage_gains.Tie as tie
 
-pub stage-gains-spec : {M : Type 1} → statement M
+returns : tie.Need-returns
 unfolding stageGains
-stage-gains-spec = tie.close (tie.spec (λ c κs. tt) (λ c κs. tt) (λ c κs. tt) (λ c κs. tt) (λ c. cc))
+returns c =
+    rw (
+      c .stage-gain4 .ensures,
+      c .before .stage-gain3 .ensures,
+      c .before .before .stage-gain2 .ensures,
+      c .before .before .before .stage-gain .ensures,
+    )
+
+pub stage-gains-spec : {M : Type 1} → statement M
+stage-gains-spec = tie.close (tie.spec (λ c κs. tt) (λ c κs. tt) (λ c κs. tt) (λ c κs. tt) returns)

@@ -1,4 +1,5 @@
 -- `ladders::transistor_with` meets its contract: the operations are the definition's.
+use mathlib.Core.Path.{refl}
 use lib.Ieee.{ofBits, round}
 use Rattle.ladders.specs.Ladders.{transistorWith}
 use Rattle.ladders.proofs.transistor_with.Statement.{statement}
@@ -6,4 +7,4 @@ use Rattle.ladders.proofs.transistor_with.Tie as tie
 
 pub transistor-with-spec : {M : Type 1} → statement M
 unfolding transistorWith ofBits round
-transistor-with-spec = tie.close (tie.spec (λ c. cc))
+transistor-with-spec = tie.close (tie.spec (λ c. refl))

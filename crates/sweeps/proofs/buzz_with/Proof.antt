@@ -6,4 +6,8 @@ use Rattle.sweeps.proofs.buzz_with.Tie as tie
 
 pub buzz-with-spec : {M : Type 1} → statement M
 unfolding buzzWith ofBits round
-buzz-with-spec = tie.close (tie.spec (λ c κs. tt) (λ c κs. tt) (λ c κs. tt) (λ c. cc))
+buzz-with-spec =
+    tie.close
+    (tie.spec
+    (λ c κs. tt) (λ c κs. tt) (λ c κs. tt)
+    (λ c. rw (c .min2 .ensures, c .before .before .min .ensures, c .before .before .before .before .before .svf-k .ensures)))

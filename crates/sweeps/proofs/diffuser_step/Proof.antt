@@ -28,4 +28,4 @@ diffuser-step-spec =
     tie.close
     (tie.spec
     Inv-loop μ-loop (λ c. (omega arith, refl)) (λ c κs. omega arith) (λ c. omega arith) (λ c. omega arith)
-    (λ c. (omega arith, rw add-one (cc))) returns)
+    (λ c. (omega arith, rw (add-one, c .diffuse-stage .ensures, c .before .before .loop .inv .1))) returns)

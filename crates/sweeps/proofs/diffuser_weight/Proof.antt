@@ -13,4 +13,8 @@ exact c = le→leb (c .before .args .j) (2 ^ 24) (omega arith)
 
 pub diffuser-weight-spec : {M : Type 1} → statement M
 unfolding diffuserWeight ofBits ofInt round
-diffuser-weight-spec = tie.close (tie.spec exact (λ c κs. tt) (λ c κs. tt) (λ c. cc))
+diffuser-weight-spec =
+    tie.close
+    (tie.spec
+    exact (λ c κs. tt) (λ c κs. tt)
+    (λ c. rw (c .max .ensures, c .before .abs .ensures)))

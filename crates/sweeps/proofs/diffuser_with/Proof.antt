@@ -6,4 +6,4 @@ use Rattle.sweeps.proofs.diffuser_with.Tie as tie
 
 pub diffuser-with-spec : {M : Type 1} → statement M
 unfolding diffuserWith ofBits round
-diffuser-with-spec = tie.close (tie.spec (λ c κs. tt) (λ c. cc))
+diffuser-with-spec = tie.close (tie.spec (λ c κs. tt) (λ c. rw (c .before .diffuser-k .ensures)))

@@ -4,9 +4,21 @@ use Rattle.sweeps.specs.Sweeps.{djCoefficients}
 use Rattle.sweeps.proofs.dj_coefficients.Statement.{statement}
 use Rattle.sweeps.proofs.dj_coefficients.Tie as tie
 
-pub dj-coefficients-spec : {M : Type 1} → statement M
+returns : tie.Need-returns
 unfolding djCoefficients ofBits round
+returns c =
+    rw (
+      c .min .ensures,
+      c .before .dj-k .ensures,
+      c .before .before .gain .ensures,
+      c .before .before .before .dj-pitch .ensures,
+      c .before .before .before .before .dj-depth .ensures,
+      c .before .before .before .before .before .unit .ensures,
+      c .before .before .before .before .before .before .dj-distance .ensures,
+    )
+
+pub dj-coefficients-spec : {M : Type 1} → statement M
 dj-coefficients-spec =
     tie.close
     (tie.spec
-    (λ c κs. tt) (λ c κs. tt) (λ c κs. tt) (λ c κs. tt) (λ c κs. tt) (λ c κs. tt) (λ c κs. tt) (λ c. cc))
+    (λ c κs. tt) (λ c κs. tt) (λ c κs. tt) (λ c κs. tt) (λ c κs. tt) (λ c κs. tt) (λ c κs. tt) returns)

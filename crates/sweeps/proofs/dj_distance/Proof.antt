@@ -6,4 +6,4 @@ use Rattle.sweeps.proofs.dj_distance.Tie as tie
 
 pub dj-distance-spec : {M : Type 1} → statement M
 unfolding djDistance ofBits round
-dj-distance-spec = tie.close (tie.spec (λ c κs. tt) (λ c κs. tt) (λ c. cc))
+dj-distance-spec = tie.close (tie.spec (λ c κs. tt) (λ c κs. tt) (λ c. rw (c .min .ensures, c .before .max .ensures)))

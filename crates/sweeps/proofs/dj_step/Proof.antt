@@ -10,4 +10,4 @@ dj-step-spec =
     tie.close
     (tie.spec
     (λ c. search needs) (λ c. search needs) (λ c κs. tt) (λ c. search needs) (λ c. search needs) (λ c κs. tt)
-    (λ c. (cc, cc)))
+    (λ c. (rw (c .dj-mix .ensures, c .before .svf .ensures), rw (c .before .svf .ensures))))

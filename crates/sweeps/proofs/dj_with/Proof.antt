@@ -6,4 +6,4 @@ use Rattle.sweeps.proofs.dj_with.Tie as tie
 
 pub dj-with-spec : {M : Type 1} → statement M
 unfolding djWith ofBits round
-dj-with-spec = tie.close (tie.spec (λ c κs. tt) (λ c. cc))
+dj-with-spec = tie.close (tie.spec (λ c κs. tt) (λ c. rw (c .dj-k .ensures)))
