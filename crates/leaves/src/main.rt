@@ -100,14 +100,11 @@ fn bits_at(s: &[u8], starts: &[usize; 256], k: usize) -> u64 {
 
 // Word k as an f32; 0 where it is none.
 fn float_at(s: &[u8], starts: &[usize; 256], k: usize) -> f32 {
-    if k < 256 {
-        let p = text::hexadecimal(s, text::word(s, starts[k]));
-        return match p {
-            text::Pattern::Bits(b) => text::float_of(b),
-            text::Pattern::Malformed => 0.0,
-        };
+    let b = bits_at(s, starts, k);
+    if b > 4294967295 {
+        return 0.0;
     }
-    0.0
+    text::float_of(b as u32)
 }
 
 // Whether the words from `from` up to `to` are all f32.
@@ -231,7 +228,18 @@ fn width_of(kind: u64) -> usize
     }
 }
 
-// The point at word k: kind, frequency, Q, and what the kind carries.
+// The frequency and Q after word k, and what the kind carries.
+fn point_of(kind: u64, s: &[u8], starts: &[usize; 256], k: usize) -> Point
+    requires { ⌜ k ≤ 250 ⌝ }
+{
+    Point {
+        kind: kind_of(kind, float_at(s, starts, k + 3), float_at(s, starts, k + 4)),
+        frequency: float_at(s, starts, k + 1),
+        q: float_at(s, starts, k + 2),
+    }
+}
+
+// The point at word k.
 fn point_at(s: &[u8], starts: &[usize; 256], k: usize) -> PointRead {
     let kind = decimal_at(s, starts, k, 99);
     let width = width_of(kind);
@@ -243,13 +251,9 @@ fn point_at(s: &[u8], starts: &[usize; 256], k: usize) -> PointRead {
         };
     }
     PointRead {
-        point: Point {
-            kind: kind_of(kind, float_at(s, starts, k + 3), float_at(s, starts, k + 4)),
-            frequency: float_at(s, starts, k + 1),
-            q: float_at(s, starts, k + 2),
-        },
+        point: point_of(kind, s, starts, k),
         next: k + width,
-        ok: width > 0 && are_floats(s, starts, k + 1, k + width),
+        ok: (width > 0) & are_floats(s, starts, k + 1, k + width),
     }
 }
 
@@ -323,29 +327,36 @@ fn nine(s: &[u8], starts: &[usize; 256]) -> [f32; 9] {
 
 // The functions with one number as their answer.
 fn value_of(name: usize, x: [f32; 9], t: &[u8; 1024]) -> f32 {
+    let a = x[0];
+    let b = x[1];
     match name {
-        0 => lane::max(x[0], x[1]),
-        1 => lane::min(x[0], x[1]),
-        2 => lane::exp2(x[0]),
-        3 => lane::tan(x[0]),
-        4 => lane::soft_clip(x[0]),
-        5 => sqrt::root_in(x[0], t),
-        6 => log2::log2(x[0]),
-        7 => extended::asym(x[0]),
-        8 => lane::saturation_gain(x[0], x[1], t),
-        9 => lines::hermite(x[0], x[1], x[2], x[3], x[4]),
-        10 => filter::ratio_of(Pitch(x[0]), Ratio(x[1])).0,
-        _ => filter::gain(Pitch(x[0]), Ratio(x[1])),
+        0 => lane::max(a, b),
+        1 => lane::min(a, b),
+        2 => lane::exp2(a),
+        3 => lane::tan(a),
+        4 => lane::soft_clip(a),
+        5 => sqrt::root_in(a, t),
+        6 => log2::log2(a),
+        7 => extended::asym(a),
+        8 => lane::saturation_gain(a, b, t),
+        9 => lines::hermite(a, b, x[2], x[3], x[4]),
+        10 => filter::ratio_of(Pitch(a), Ratio(b)).0,
+        _ => filter::gain(Pitch(a), Ratio(b)),
     }
 }
 
-fn put_svf(out: &mut [u8], at: usize, x: [f32; 9]) -> usize {
+fn svf_of(x: [f32; 9]) -> [f32; 4] {
     let v = filter::svf(x[0], x[1], x[2], x[3], x[4]);
-    put_floats(out, at, &[v.band, v.low, v.ic1, v.ic2])
+    [v.band, v.low, v.ic1, v.ic2]
 }
 
-fn put_targets(out: &mut [u8], at: usize, x: [f32; 9]) -> usize {
-    let t = filter::voice_targets(VoiceParams {
+fn put_svf(out: &mut [u8], at: usize, x: [f32; 9]) -> usize {
+    let v = svf_of(x);
+    put_floats(out, at, &v)
+}
+
+fn params_of(x: [f32; 9]) -> VoiceParams {
+    VoiceParams {
         resonance: x[0],
         drive: x[1],
         saturation: x[2],
@@ -355,7 +366,11 @@ fn put_targets(out: &mut [u8], at: usize, x: [f32; 9]) -> usize {
         level: x[6],
         morph_x: x[7],
         morph_y: x[8],
-    });
+    }
+}
+
+fn put_targets(out: &mut [u8], at: usize, x: [f32; 9]) -> usize {
+    let t = filter::voice_targets(params_of(x));
     put_floats(out, at, &t)
 }
 
@@ -372,12 +387,10 @@ fn float_row(out: &mut [u8], at: usize, name: usize, x: [f32; 9], t: &[u8; 1024]
 // `point` POINT
 fn point_row(s: &[u8], starts: &[usize; 256], n: usize, out: &mut [u8], at: usize) -> usize {
     let r = point_at(s, starts, 1);
-    if r.ok {
-        if r.next == n {
-            let p = r.point;
-            let v = p.section().values();
-            return put_floats(out, at, &v);
-        }
+    if r.ok & (r.next == n) {
+        let p = r.point;
+        let v = p.section().values();
+        return put_floats(out, at, &v);
     }
     0
 }
@@ -385,11 +398,9 @@ fn point_row(s: &[u8], starts: &[usize; 256], n: usize, out: &mut [u8], at: usiz
 // `table` DESIGN
 fn table_row(s: &[u8], starts: &[usize; 256], n: usize, out: &mut [u8], at: usize) -> usize {
     let r = design_at(s, starts, 1);
-    if r.ok {
-        if r.next == n {
-            let d = r.design;
-            return put_table(out, at, Table::of(d));
-        }
+    if r.ok & (r.next == n) {
+        let d = r.design;
+        return put_table(out, at, Table::of(d));
     }
     0
 }
@@ -405,13 +416,11 @@ fn put_table(out: &mut [u8], at: usize, t: Table) -> usize {
 // `section` point x y DESIGN
 fn section_row(s: &[u8], starts: &[usize; 256], n: usize, out: &mut [u8], at: usize) -> usize {
     let r = design_at(s, starts, 4);
-    if r.ok & is_decimal(s, starts, 1) & are_floats(s, starts, 2, 4) {
-        if r.next == n {
-            let d = r.design;
-            let p = decimal_at(s, starts, 1, 0) as usize;
-            let a = d.section(p, float_at(s, starts, 2), float_at(s, starts, 3));
-            return put_answer(out, at, a);
-        }
+    if r.ok & (r.next == n) & is_decimal(s, starts, 1) & are_floats(s, starts, 2, 4) {
+        let d = r.design;
+        let p = decimal_at(s, starts, 1, 0) as usize;
+        let a = d.section(p, float_at(s, starts, 2), float_at(s, starts, 3));
+        return put_answer(out, at, a);
     }
     0
 }
@@ -456,6 +465,22 @@ fn read_row(
     0
 }
 
+// A name and the f32 that it takes.
+fn floats_row(
+    s: &[u8],
+    starts: &[usize; 256],
+    n: usize,
+    name: usize,
+    t: &[u8; 1024],
+    out: &mut [u8],
+    at: usize,
+) -> usize {
+    if (n == words(name)) & are_floats(s, starts, 1, n) {
+        return float_row(out, at, name, nine(s, starts), t);
+    }
+    0
+}
+
 // Writes a row's answer at `at`, and answers the position after it; 0 where the row cannot be read.
 fn answer(
     s: &[u8],
@@ -468,21 +493,25 @@ fn answer(
     at: usize,
 ) -> usize {
     match name {
-        0..=14 => {
-            if n != words(name) {
-                return 0;
-            }
-            if are_floats(s, starts, 1, n) {
-                return float_row(out, at, name, nine(s, starts), t);
-            }
-            0
-        }
+        0..=14 => floats_row(s, starts, n, name, t, out, at),
         15 => point_row(s, starts, n, out, at),
         16 => table_row(s, starts, n, out, at),
         17 => section_row(s, starts, n, out, at),
         18 => read_row(s, starts, n, cells, out, at),
         _ => 0,
     }
+}
+
+// The place of the row's name; 99 where it has none.
+fn name_of(s: &[u8]) -> usize {
+    let end = text::word(s, 0).end;
+    if end > s.len() {
+        return 99;
+    }
+    place(
+        b"max min exp2 tan soft_clip sqrt log2 asym saturation_gain hermite ratio_of gain svf targets_of ring_len point table section read",
+        &s[0..end],
+    )
 }
 
 // The row again: up to `= ` as it stands, then the answer.
@@ -496,31 +525,33 @@ fn row(s: &[u8], cells: &[f32], t: &[u8; 1024], out: &mut [u8]) -> usize {
     }
     let mut starts = [0usize; 256];
     let n = split(s, eq, &mut starts);
-    let end = text::word(s, 0).end;
-    if end > s.len() {
-        return 0;
-    }
-    let name = place(
-        b"max min exp2 tan soft_clip sqrt log2 asym saturation_gain hermite ratio_of gain svf targets_of ring_len point table section read",
-        &s[0..end],
-    );
     let at = text::put_bytes(out, 0, &s[0..eq + 2]);
-    answer(s, &starts, n, name, cells, t, out, at)
+    answer(s, &starts, n, name_of(s), cells, t, out, at)
+}
+
+// Whether the line is neither empty nor to be copied.
+fn is_row(s: &[u8]) -> bool {
+    if s.len() == 0 {
+        return false;
+    }
+    s[0] != b'#'
+}
+
+// A newline after a row that ends at p.
+fn put_end(out: &mut [u8], p: usize) -> usize {
+    if p == 0 {
+        return text::put_bytes(out, 0, b"?\n");
+    }
+    text::put_byte(out, p, b'\n')
 }
 
 // A line without its newline; answers how many bytes of `out` to write.
 fn line(s: &[u8], cells: &[f32], t: &[u8; 1024], out: &mut [u8]) -> usize {
-    if s.len() == 0 {
-        return text::put_byte(out, 0, b'\n');
+    if is_row(s) {
+        let p = row(s, cells, t, out);
+        return put_end(out, p);
     }
-    if s[0] == b'#' {
-        let p = text::put_bytes(out, 0, s);
-        return text::put_byte(out, p, b'\n');
-    }
-    let p = row(s, cells, t, out);
-    if p == 0 {
-        return text::put_bytes(out, 0, b"?\n");
-    }
+    let p = text::put_bytes(out, 0, s);
     text::put_byte(out, p, b'\n')
 }
 
@@ -561,12 +592,24 @@ fn fill(cells: &mut [f32]) {
     }
 }
 
+// Reads the input and replays it.
+fn read_and_replay(input: &mut [u8], cells: &mut [f32], out: &mut [u8]) {
+    fill(cells);
+    let t = sqrt::openings();
+    let n = io::read_full(0, input);
+    if n <= input.len() {
+        replay(&input[0..n], cells, &t, out);
+    }
+}
+
+// The same with the arrays by their types: the lengths of local arrays of this size take the prover long.
+fn replay_input(input: &mut [u8; 524288], cells: &mut [f32; 131072], out: &mut [u8; 8192]) {
+    read_and_replay(input, cells, out);
+}
+
 fn main() {
     let mut input = [0u8; 524288];
-    let n = io::read_full(0, &mut input);
     let mut cells = [0f32; 131072];
-    fill(&mut cells);
-    let t = sqrt::openings();
     let mut out = [0u8; 8192];
-    replay(&input[..n], &cells, &t, &mut out);
+    replay_input(&mut input, &mut cells, &mut out);
 }

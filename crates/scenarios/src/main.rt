@@ -139,14 +139,11 @@ fn bits_at(s: &[u8], starts: &[usize; 16], k: usize) -> u64 {
 
 // Word k as an f32; 0 where it is none.
 fn float_at(s: &[u8], starts: &[usize; 16], k: usize) -> f32 {
-    if k < 16 {
-        let p = text::hexadecimal(s, text::word(s, starts[k]));
-        return match p {
-            text::Pattern::Bits(b) => text::float_of(b),
-            text::Pattern::Malformed => 0.0,
-        };
+    let b = bits_at(s, starts, k);
+    if b > 4294967295 {
+        return 0.0;
     }
-    0.0
+    text::float_of(b as u32)
 }
 
 // Whether the words from `from` up to `to` are all f32.
@@ -389,25 +386,29 @@ fn put_ok(out: &mut [u8], at: usize, cursor: usize) -> usize {
     text::put_decimal(out, p, cursor as u64)
 }
 
+fn put_refused(out: &mut [u8], at: usize, n: u32) -> usize {
+    let p = text::put_bytes(out, at, b"= refused ");
+    text::put_decimal(out, p, n as u64)
+}
+
+fn put_rendered(out: &mut [u8], at: usize, cursor: usize, frames: usize) -> usize {
+    let p = put_ok(out, at, cursor);
+    let p = text::put_byte(out, p, b' ');
+    text::put_decimal(out, p, frames as u64)
+}
+
+fn put_words(out: &mut [u8], at: usize, a: Answer) -> usize {
+    match a {
+        Answer::Refused(n) => put_refused(out, at, n),
+        Answer::Kept(cursor) => put_ok(out, at, cursor),
+        Answer::Rendered(cursor, frames) => put_rendered(out, at, cursor, frames),
+    }
+}
+
 // A call's answer as a line.
 fn put_answer(out: &mut [u8], at: usize, a: Answer) -> usize {
-    match a {
-        Answer::Refused(n) => {
-            let p = text::put_bytes(out, at, b"= refused ");
-            let p = text::put_decimal(out, p, n as u64);
-            text::put_byte(out, p, b'\n')
-        }
-        Answer::Kept(cursor) => {
-            let p = put_ok(out, at, cursor);
-            text::put_byte(out, p, b'\n')
-        }
-        Answer::Rendered(cursor, frames) => {
-            let p = put_ok(out, at, cursor);
-            let p = text::put_byte(out, p, b' ');
-            let p = text::put_decimal(out, p, frames as u64);
-            text::put_byte(out, p, b'\n')
-        }
-    }
+    let p = put_words(out, at, a);
+    text::put_byte(out, p, b'\n')
 }
 
 fn is_accepted(a: Answer) -> bool {
@@ -586,7 +587,17 @@ fn read_block(s: &[u8], starts: &[usize; 16], n: usize, st: State, digest: bool)
     }
 }
 
-// What a line says beside the lists' numbers. `word` counts the names in `command`.
+// Whether a line that changes no state can be read.
+fn is_read(word: usize, s: &[u8], starts: &[usize; 16], n: usize) -> bool {
+    match word {
+        6 => (n > 2) & are_decimals(s, starts, 2, 3),
+        7 => (n == 11) & are_decimals(s, starts, 1, 2) & are_floats(s, starts, 2, 11),
+        8 => (n == 2) & are_decimals(s, starts, 1, 2),
+        _ => word <= 15,
+    }
+}
+
+// What a line says beside the lists' numbers. `word` counts the names in `command_at`.
 fn read_state(word: usize, s: &[u8], starts: &[usize; 16], n: usize, st: State) -> StateRead {
     match word {
         0 => StateRead {
@@ -598,23 +609,11 @@ fn read_state(word: usize, s: &[u8], starts: &[usize; 16], n: usize, st: State) 
         3 => read_setup(s, starts, n, st),
         4 => read_lend(s, starts, n, st),
         5 => read_cursor(s, starts, n, st),
-        6 => StateRead {
-            state: st,
-            ok: (n > 2) & are_decimals(s, starts, 2, 3),
-        },
-        7 => StateRead {
-            state: st,
-            ok: (n == 11) & are_decimals(s, starts, 1, 2) & are_floats(s, starts, 2, 11),
-        },
-        8 => StateRead {
-            state: st,
-            ok: (n == 2) & are_decimals(s, starts, 1, 2),
-        },
         9 => read_block(s, starts, n, st, false),
         10 => read_block(s, starts, n, st, true),
         _ => StateRead {
             state: st,
-            ok: word <= 15,
+            ok: is_read(word, s, starts, n),
         },
     }
 }
@@ -715,6 +714,32 @@ fn counted(word: usize, st: State, count: usize) -> State {
     next
 }
 
+// Writes halves up to n.
+fn fill_halves(xs: &mut [f32], n: usize) {
+    let n = at_most(n, xs.len());
+    fill(xs, 0, n, 0.5);
+}
+
+fn open_lists(
+    setup: Setup,
+    own: Lengths,
+    targets: &mut [f32],
+    records: &mut [f32],
+    delay: &mut [f32],
+) -> Answer {
+    let t = at_most(own.targets, targets.len());
+    let r = at_most(own.records, records.len());
+    let d = at_most(own.delay, delay.len());
+    let opened = bank::open(
+        setup,
+        &mut targets[0..t],
+        &mut records[0..r],
+        &mut delay[0..d],
+    );
+    let a = opened.answer;
+    a
+}
+
 // The lists anew, each number a half, and `open`.
 fn open_call(
     st: State,
@@ -725,19 +750,10 @@ fn open_call(
     at: usize,
 ) -> usize {
     let own = st.own;
-    let t = at_most(own.targets, targets.len());
-    let r = at_most(own.records, records.len());
-    let d = at_most(own.delay, delay.len());
-    fill(targets, 0, t, 0.5);
-    fill(records, 0, r, 0.5);
-    fill(delay, 0, d, 0.5);
-    let opened = bank::open(
-        st.setup,
-        &mut targets[0..t],
-        &mut records[0..r],
-        &mut delay[0..d],
-    );
-    let a = opened.answer;
+    fill_halves(targets, own.targets);
+    fill_halves(records, own.records);
+    fill_halves(delay, own.delay);
+    let a = open_lists(st.setup, own, targets, records, delay);
     put_answer(out, at, a)
 }
 
@@ -887,7 +903,55 @@ fn after_call(st: State, cursor: usize) -> State {
     next
 }
 
-// Makes the call of a line and writes its answer after the line.
+// The state after a line that is no block's.
+fn state_after(word: usize, st: State) -> State {
+    match word {
+        7 | 8 => after_call(st, st.cursor),
+        _ => st,
+    }
+}
+
+// Makes the call of a line that is no block's and writes its answer after the line.
+fn call(
+    word: usize,
+    s: &[u8],
+    starts: &[usize; 16],
+    st: State,
+    targets: &mut [f32],
+    records: &mut [f32],
+    delay: &mut [f32],
+    out: &mut [u8],
+    at: usize,
+) -> usize {
+    match word {
+        2 => open_call(st, targets, records, delay, out, at),
+        7 => set_call(s, starts, st, targets, out, at),
+        8 => start_call(st, count_at(s, starts, 1), targets, records, delay, out, at),
+        11 => dump(st.own, targets, records, delay, out, at),
+        _ => at,
+    }
+}
+
+// The same of a block, whose last line has been read.
+fn block_line(
+    st: State,
+    targets: &[f32],
+    records: &mut [f32],
+    delay: &mut [f32],
+    pitch: &[f32],
+    x: &[f32],
+    y: &[f32],
+    audio: &mut [f32],
+    out: &mut [u8],
+    at: usize,
+) -> Step {
+    let a = block_call(st, targets, records, delay, pitch, x, y, audio);
+    Step {
+        state: after_call(st, cursor_after(a, st.cursor)),
+        at: put_block(out, at, a, st, audio),
+    }
+}
+
 fn respond(
     word: usize,
     s: &[u8],
@@ -903,32 +967,32 @@ fn respond(
     out: &mut [u8; 524288],
     at: usize,
 ) -> Step {
-    match word {
-        2 => Step {
-            state: st,
-            at: open_call(st, targets, records, delay, out, at),
-        },
-        7 => Step {
-            state: after_call(st, st.cursor),
-            at: set_call(s, starts, st, targets, out, at),
-        },
-        8 => Step {
-            state: after_call(st, st.cursor),
-            at: start_call(st, count_at(s, starts, 1), targets, records, delay, out, at),
-        },
-        11 => Step {
-            state: st,
-            at: dump(st.own, targets, records, delay, out, at),
-        },
-        15 => {
-            let a = block_call(st, targets, records, delay, pitch, x, y, audio);
-            Step {
-                state: after_call(st, cursor_after(a, st.cursor)),
-                at: put_block(out, at, a, st, audio),
-            }
-        }
-        _ => Step { state: st, at: at },
+    if word == 15 {
+        return block_line(st, targets, records, delay, pitch, x, y, audio, out, at);
     }
+    Step {
+        state: state_after(word, st),
+        at: call(word, s, starts, st, targets, records, delay, out, at),
+    }
+}
+
+// The line and its newline.
+fn put_line(out: &mut [u8], s: &[u8]) -> usize {
+    let p = text::put_bytes(out, 0, s);
+    text::put_byte(out, p, b'\n')
+}
+
+fn put_unread(out: &mut [u8]) -> usize {
+    text::put_bytes(out, 0, b"?\n")
+}
+
+// The place of the line's first word among the commands.
+fn command_at(s: &[u8]) -> usize {
+    name_at(
+        b"scenario table open setup lend cursor poke set start block blockh dump p x y a",
+        s,
+        0,
+    )
 }
 
 // A line that is no comment and no answer.
@@ -946,11 +1010,7 @@ fn command(
 ) -> Step {
     let mut starts = [0usize; 16];
     let n = split(s, &mut starts);
-    let word = name_at(
-        b"scenario table open setup lend cursor poke set start block blockh dump p x y a",
-        s,
-        0,
-    );
+    let word = command_at(s);
     let read = read_state(word, s, &starts, n, st);
     let numbers = read_numbers(
         word,
@@ -967,8 +1027,7 @@ fn command(
         audio,
     );
     if read.ok & numbers.ok & in_order(word, st.awaited) {
-        let p = text::put_bytes(out, 0, s);
-        let p = text::put_byte(out, p, b'\n');
+        let p = put_line(out, s);
         return respond(
             word,
             s,
@@ -987,11 +1046,42 @@ fn command(
     }
     Step {
         state: st,
-        at: text::put_bytes(out, 0, b"?\n"),
+        at: put_unread(out),
     }
 }
 
-// A line without its newline.
+fn is_comment(s: &[u8]) -> bool {
+    if s.len() == 0 {
+        return false;
+    }
+    s[0] == b'#'
+}
+
+fn is_command(s: &[u8]) -> bool {
+    if s.len() == 0 {
+        return false;
+    }
+    if s[0] == b'#' {
+        return false;
+    }
+    name_at(b"= o h t r d", s, 0) >= 6
+}
+
+// A comment, and nothing of an answer.
+fn put_comment(out: &mut [u8], s: &[u8]) -> usize {
+    if is_comment(s) {
+        return put_line(out, s);
+    }
+    0
+}
+
+fn write(out: &[u8], n: usize) {
+    if n <= out.len() {
+        io::write_all(1, &out[0..n]);
+    }
+}
+
+// Reads a line without its newline, and writes it and its answer.
 fn line(
     s: &[u8],
     st: State,
@@ -1003,85 +1093,42 @@ fn line(
     y: &mut [f32; 8192],
     audio: &mut [f32; 16384],
     out: &mut [u8; 524288],
-) -> Step {
-    if s.len() == 0 {
-        return Step { state: st, at: 0 };
+) -> State {
+    if is_command(s) {
+        let step = command(s, st, targets, records, delay, pitch, x, y, audio, out);
+        write(out, step.at);
+        let state = step.state;
+        return state;
     }
-    if s[0] == b'#' {
-        let p = text::put_bytes(out, 0, s);
-        return Step {
-            state: st,
-            at: text::put_byte(out, p, b'\n'),
-        };
-    }
-    if name_at(b"= o h t r d", s, 0) < 6 {
-        return Step { state: st, at: 0 };
-    }
-    command(s, st, targets, records, delay, pitch, x, y, audio, out)
+    let n = put_comment(out, s);
+    write(out, n);
+    st
 }
 
-fn write(out: &[u8], n: usize) {
-    if n <= out.len() {
-        io::write_all(1, &out[0..n]);
+// The end of the line at `at`, of a text of n bytes.
+fn end_of(s: &[u8], n: usize, at: usize) -> usize
+    requires { ⌜ (at < n) × (n ≤ length (now s)) ⌝ }
+    ensures { λ r. ⌜ (at ≤ r) × (r ≤ n) ⌝ }
+{
+    let end = text::line_end(&s[0..n], at);
+    if end < at {
+        return at;
     }
+    if end > n { n } else { end }
 }
 
 // The position after a newline at `end`, or the text's end.
-fn after(end: usize, len: usize) -> usize {
-    if end < len { end + 1 } else { len }
+fn after(at: usize, end: usize, n: usize) -> usize
+    requires { ⌜ (at < n) × (at ≤ end) ⌝ }
+    ensures { λ r. ⌜ (at < r) × (r ≤ n) ⌝ }
+{
+    if end < n { end + 1 } else { n }
 }
 
-// The line at `at`: the state after it, and where the next one starts.
-fn line_at(
-    s: &[u8],
-    at: usize,
-    st: State,
-    targets: &mut [f32; 161],
-    records: &mut [f32; 961],
-    delay: &mut [f32; 65537],
-    pitch: &mut [f32; 8192],
-    x: &mut [f32; 8192],
-    y: &mut [f32; 8192],
-    audio: &mut [f32; 16384],
-    out: &mut [u8; 524288],
-) -> Step {
-    let end = text::line_end(s, at);
-    let next = after(end, s.len());
-    if end < at {
-        return Step {
-            state: st,
-            at: next,
-        };
-    }
-    if end > s.len() {
-        return Step {
-            state: st,
-            at: next,
-        };
-    }
-    let step = line(
-        &s[at..end],
-        st,
-        targets,
-        records,
-        delay,
-        pitch,
-        x,
-        y,
-        audio,
-        out,
-    );
-    write(out, step.at);
-    let state = step.state;
-    Step {
-        state: state,
-        at: next,
-    }
-}
-
-// Every line of the input.
+// Every line of the first n bytes.
 fn replay(
     s: &[u8],
+    n: usize,
     targets: &mut [f32; 161],
     records: &mut [f32; 961],
     delay: &mut [f32; 65537],
@@ -1091,38 +1138,14 @@ fn replay(
     audio: &mut [f32; 16384],
     out: &mut [u8; 524288],
 ) {
+    let n = at_most(n, s.len());
     let mut st = fresh();
     let mut at = 0;
-    while at < s.len() {
-        let step = line_at(s, at, st, targets, records, delay, pitch, x, y, audio, out);
-        st = step.state;
-        let next = step.at;
-        if next <= at {
-            return;
-        }
-        if next > s.len() {
-            return;
-        }
-        at = next;
-    }
-}
-
-// Reads the input and replays it.
-fn read_and_replay(
-    input: &mut [u8],
-    targets: &mut [f32; 161],
-    records: &mut [f32; 961],
-    delay: &mut [f32; 65537],
-    pitch: &mut [f32; 8192],
-    x: &mut [f32; 8192],
-    y: &mut [f32; 8192],
-    audio: &mut [f32; 16384],
-    out: &mut [u8; 524288],
-) {
-    let n = io::read_full(0, input);
-    if n <= input.len() {
-        replay(
-            &input[0..n],
+    while at < n {
+        let end = end_of(s, n, at);
+        st = line(
+            &s[at..end],
+            st,
             targets,
             records,
             delay,
@@ -1132,12 +1155,18 @@ fn read_and_replay(
             audio,
             out,
         );
+        at = after(at, end, n);
     }
+}
+
+fn read_input(input: &mut [u8; 1048576]) -> usize {
+    io::read_full(0, input)
 }
 
 // The same with the input's array by its type: the length of a local array of this size takes the prover too deep.
 fn replay_input(
-    input: &mut [u8; 1048576],
+    input: &[u8; 1048576],
+    n: usize,
     targets: &mut [f32; 161],
     records: &mut [f32; 961],
     delay: &mut [f32; 65537],
@@ -1147,7 +1176,7 @@ fn replay_input(
     audio: &mut [f32; 16384],
     out: &mut [u8; 524288],
 ) {
-    read_and_replay(input, targets, records, delay, pitch, x, y, audio, out);
+    replay(input, n, targets, records, delay, pitch, x, y, audio, out);
 }
 
 fn main() {
@@ -1160,8 +1189,10 @@ fn main() {
     let mut y = [0f32; 8192];
     let mut audio = [0f32; 16384];
     let mut out = [0u8; 524288];
+    let n = read_input(&mut input);
     replay_input(
-        &mut input,
+        &input,
+        n,
         &mut targets,
         &mut records,
         &mut delay,

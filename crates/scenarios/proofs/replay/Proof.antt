@@ -1,41 +1,52 @@
 -- `replay` is safe and ends: the bytes that are left fall. Assumes nothing.
 use Prim.Native.Nat.{_-_}
-use lib.ListN.{length}
 use borrow.Author.Needs.{needs}
 use Rattle.scenarios.proofs.replay.Statement.{statement}
 use Rattle.scenarios.proofs.replay.Tie as tie
 
 abbrev Inv-loop : tie.InvT-loop
-Inv-loop s targets₀ records₀ delay₀ pitch₀ x₀ y₀ audio₀ out₀ st₀ at₀ targets records delay pitch x y audio out st at =
+Inv-loop s m targets₀ records₀ delay₀ pitch₀ x₀ y₀ audio₀ out₀ n st₀ at₀ targets records delay pitch x y audio out st at =
     Unit
 
 abbrev μ-loop : tie.MeasureT-loop
-μ-loop s targets₀ records₀ delay₀ pitch₀ x₀ y₀ audio₀ out₀ st₀ at₀ targets records delay pitch x y audio out st at =
-    length s - at
+μ-loop s m targets₀ records₀ delay₀ pitch₀ x₀ y₀ audio₀ out₀ n st₀ at₀ targets records delay pitch x y audio out st at =
+    n - at
+
+at-most-requires : tie.Need-at-most-requires Inv-loop μ-loop
+at-most-requires c κs = tt
 
 fresh-requires : tie.Need-fresh-requires Inv-loop μ-loop
-fresh-requires c κs = search needs
+fresh-requires c κs = tt
 
 loop-holds : tie.Need-loop-holds Inv-loop μ-loop
-loop-holds c = search needs
+loop-holds c = tt
 
-line-at-requires : tie.Need-line-at-requires Inv-loop μ-loop
-line-at-requires c κs = search needs
+end-of-requires : tie.Need-end-of-requires Inv-loop μ-loop
+end-of-requires c κs = search needs
 
-returns : tie.Need-returns Inv-loop μ-loop
-returns c = search needs
+sub-line : tie.Need-sub-line Inv-loop μ-loop
+sub-line c = search needs
 
-returns-2 : tie.Need-returns-2 Inv-loop μ-loop
-returns-2 c = search needs
+part-line-start : tie.Need-part-line-start Inv-loop μ-loop
+part-line-start c = search needs
+
+part-line-end : tie.Need-part-line-end Inv-loop μ-loop
+part-line-end c = search needs
+
+line-requires : tie.Need-line-requires Inv-loop μ-loop
+line-requires c κs = tt
+
+after-requires : tie.Need-after-requires Inv-loop μ-loop
+after-requires c κs = search needs
 
 loop-less : tie.Need-loop-less Inv-loop μ-loop
 loop-less c = search needs
 
 loop-again : tie.Need-loop-again Inv-loop μ-loop
-loop-again c = search needs
+loop-again c = tt
 
-returns-3 : tie.Need-returns-3 Inv-loop μ-loop
-returns-3 c = search needs
+returns : tie.Need-returns Inv-loop μ-loop
+returns c = tt
 
 pub replay-spec : {M : Type 1} → statement M
 replay-spec =
@@ -43,11 +54,15 @@ replay-spec =
     (tie.spec
     Inv-loop
     μ-loop
+    at-most-requires
     fresh-requires
     loop-holds
-    line-at-requires
-    returns
-    returns-2
+    end-of-requires
+    sub-line
+    part-line-start
+    part-line-end
+    line-requires
+    after-requires
     loop-less
     loop-again
-    returns-3)
+    returns)

@@ -1,4 +1,5 @@
 -- `put_hex` meets its contract: each byte is a digit by `glyph`, and `put_bytes` writes them. Assumes nothing.
+use mathlib.Core.Path.{_∙_}
 use Rattle.text.specs.Text.{hexText}
 use borrow.Author.Needs.{needs}
 use Rattle.text.proofs.put_hex.Statement.{statement}
@@ -32,14 +33,16 @@ slice-aggregate-put-bytes : tie.Need-slice-aggregate-put-bytes
 slice-aggregate-put-bytes c = search needs
 
 put-bytes-requires : tie.Need-put-bytes-requires
-put-bytes-requires c κs = search needs
+put-bytes-requires c κs = tt
 
 same-length : tie.Need-same-length
 same-length c = search needs
 
 returns : tie.Need-returns
 unfolding hexText
-returns c = cc
+returns c =
+    let d = c .before .before .before .before .before in
+    c .before .before .put-bytes .ensures ∙ rw (d .glyph8 .ensures, d .before .glyph7 .ensures, d .before .before .glyph6 .ensures, d .before .before .before .glyph5 .ensures, d .before .before .before .before .glyph4 .ensures, d .before .before .before .before .before .glyph3 .ensures, d .before .before .before .before .before .before .glyph2 .ensures, d .before .before .before .before .before .before .before .glyph .ensures)
 
 pub put-hex-spec : {M : Type 1} → statement M
 put-hex-spec =
