@@ -1,6 +1,6 @@
 -- What a good view is good for: its length is between 1,024 and 65,536 and divides the machine word, and the slot ends within the
 -- list. The cell that a wrapped difference names. By the list of lengths. Assumes nothing.
-use mathlib.Core.Path.{_≡_, refl, sym, ap, _∙_, subst}
+use mathlib.Core.Path.{_≡_, refl, sym, ap, _∙_}
 use mathlib.Core.Logic.{inl, inr, _≢_}
 use mathlib.Core.Bool.{Bool, true, false, cond, _&&_, false≢true}
 use mathlib.Core.List.{List, [], _∷_}
@@ -9,8 +9,6 @@ use native.Mathlib.Nat.{le-div-iff-mul-le, div-lt-iff-lt-mul, suc-mul, div-add-m
 use native.Mathlib.Decide.{decLe}
 use native.Mathlib.Omega.{arith}
 use lib.Dec.{leb, ltb, eqb}
-use lib.Bits.{bitAnd, and-mask}
-use lib.Ieee.{size}
 use types.Run.{OneOf}
 use borrow.Author.Tests.{eq-eqb, ne-eqb, eqb-true, leb-true, le-leb, lt-leb, ltb-true, ltb-false}
 use Rattle.parts.specs.Parts.{flat-low}
@@ -59,14 +57,6 @@ length-of len h =
       most = leb-true len 65536 (each (λ n. leb n 65536) lengths len refl h);
       divides = eqb-true (2 ^ 64 / len * len) (2 ^ 64) (each (λ n. eqb (2 ^ 64 / n * n) (2 ^ 64)) lengths len refl h);
     }
-
--- a length is a power of two, so that a mask gives the remainder
-mask : (len : ℕ) → isLength len ≡ true → 2 ^ size (len - 1) ≡ len
-unfolding size
-mask len h = eqb-true (2 ^ size (len - 1)) len (each (λ n. eqb (2 ^ size (n - 1)) n) lengths len refl h)
-
-pub mask-is : (len i : ℕ) → isLength len ≡ true → bitAnd i (len - 1) ≡ i % len
-mask-is len i h = subst (λ (n : ℕ). bitAnd i (n - 1) ≡ i % n) (mask len h) (and-mask i (size (len - 1)))
 
 -- ---- views
 pub record View (len slot have : ℕ) : Type 0 where

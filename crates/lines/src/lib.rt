@@ -1,12 +1,11 @@
 // Delay lines (lines.rs): one ring per slot of the lent delay list, read at a fractional delay with four-point cubic
 // Hermite interpolation. On plain parameters; the list holds `len` cells a slot.
 ghost use mathlib.Core.Path.{_≡_};
-ghost use mathlib.Core.Bool.{true};
-ghost use Prim.Native.Nat.{_+_, _*_, _%_, _<_, _≤_};
+ghost use Prim.Native.Nat.{_+_, _*_, _<_, _≤_};
 ghost use lib.ListN.{length, getD};
 ghost use lib.Ieee.{nan};
 ghost use Rattle.parts.specs.Parts.{piece};
-ghost use Rattle.lines.specs.Lines.{wholePart, rateRefused, nextPower, ringLen, hermiteOf, held, cellOf, tapsOf, isLength, isView, readOf, writeOf};
+ghost use Rattle.lines.specs.Lines.{wholePart, rateRefused, nextPower, ringLen, hermiteOf, held, cellOf, tapsOf, isView, readOf, writeOf};
 
 // The longest delay a bank's rings hold, in seconds at the rate it's made for.
 const MAX_DELAY_SECONDS: f32 = 0.125;
@@ -99,14 +98,6 @@ pub fn hermite(newer: f32, p0: f32, p1: f32, older: f32, t: f32) -> f32
     ((c3 * t + c2) * t + c1) * t + p0
 }
 
-// The remainder by a ring's length, a power of two.
-fn wrapped(i: usize, len: usize) -> usize
-    requires { ⌜ isLength len ≡ true ⌝ }
-    ensures { λ r. ⌜ r ≡ i % len ⌝ }
-{
-    i & (len - 1)
-}
-
 // The whole part of a delay, by its own bits: the 24 digits without those of the fraction.
 fn whole_part(d: f32) -> u32
     requires { ⌜ (1 ≤ wholePart d) × (wholePart d ≤ 65536) ⌝ }
@@ -118,17 +109,17 @@ fn whole_part(d: f32) -> u32
 
 // The cell `back` frames before the cursor, of the slot's ring.
 fn cell_at(buf: &[f32], len: usize, cursor: usize, slot: usize, back: usize) -> f32
-    requires { ⌜ (isLength len ≡ true) × (slot * len + len ≤ length (now buf)) ⌝ }
+    requires { ⌜ (0 < len) × (slot * len + len ≤ length (now buf)) ⌝ }
     ensures { λ r. ⌜ r ≡ getD (piece len slot (now (buf .entry))) (cellOf len cursor back) nan ⌝ }
 {
     let base = slot * len;
-    let cell = wrapped(std::num::wrapping_sub_usize(cursor, back), len);
+    let cell = std::num::wrapping_sub_usize(cursor, back) % len;
     buf[base + cell]
 }
 
 // The slot's ring, read between the cells `w` and `w + 1` back.
 fn taps(buf: &[f32], len: usize, cursor: usize, slot: usize, w: usize, t: f32) -> f32
-    requires { ⌜ (isLength len ≡ true) × (slot * len + len ≤ length (now buf)) × (2 ≤ w) × (w ≤ 65536) ⌝ }
+    requires { ⌜ (0 < len) × (slot * len + len ≤ length (now buf)) × (2 ≤ w) × (w ≤ 65536) ⌝ }
     ensures { λ r. ⌜ r ≡ tapsOf len cursor w t (piece len slot (now (buf .entry))) ⌝ }
 {
     let newer = cell_at(buf, len, cursor, slot, w - 1);
@@ -164,7 +155,7 @@ pub fn write_at(buf: &mut [f32], len: usize, cursor: usize, slot: usize, value: 
 {
     if is_view(len, slot, buf.len()) {
         let base = slot * len;
-        let cell = wrapped(cursor, len);
+        let cell = cursor % len;
         buf[base + cell] = value;
     }
 }

@@ -1,6 +1,6 @@
 -- `lines::cell_at` meets its contract: the remainder is below the length, and the wrapped difference is the definition's.
-use mathlib.Core.Path.{sym, ap, _∙_, subst}
-use Prim.Native.Nat.{ℕ, _<_}
+use mathlib.Core.Path.{sym, ap, _∙_}
+use Prim.Native.Nat.{ℕ}
 use native.Mathlib.Nat.{mod-lt}
 use native.Mathlib.Omega.{arith}
 use denote.Ref.{now}
@@ -8,30 +8,44 @@ use lib.Ieee.{nan}
 use lib.ListN.{getD}
 use Rattle.parts.specs.Parts.{piece, piece-get}
 use borrow.Author.Needs.{needs}
-use Rattle.lines.specs.View.{length-of, cell-is}
+use Rattle.lines.specs.View.{cell-is}
 use Rattle.lines.proofs.cell_at.Statement.{statement}
 use Rattle.lines.proofs.cell_at.Tie as tie
 
-below : (c : tie.After-wrapped) → c .wrapped .result < c .before .before .before .args .len
-below c = let s = c .before .before .before in let l = length-of (s .args .len) (s .pre .0) in subst (λ (z : ℕ). z < s .args .len) (sym (c .wrapped .ensures)) (mod-lt (c .before .wrapping-sub-usize .result) (omega arith))
+mul-base : tie.Need-mul-base
+mul-base c = search needs
+
+wrapping-sub-usize-requires : tie.Need-wrapping-sub-usize-requires
+wrapping-sub-usize-requires c κs = search needs
+
+rem-cell : tie.Need-rem-cell
+rem-cell c = search needs
+
+add-result : tie.Need-add-result
+add-result c = omega (arith, mod-lt (c .wrapping-sub-usize .result) (c .before .before .pre .0))
+
+mul-result : tie.Need-mul-result
+mul-result c = omega (arith, mod-lt (c .wrapping-sub-usize .result) (c .before .before .pre .0))
+
+shared-slice-read-result : tie.Need-shared-slice-read-result
+shared-slice-read-result c = omega (arith, mod-lt (c .before .wrapping-sub-usize .result) (c .before .before .before .pre .0))
 
 returns : tie.Need-returns
 returns c =
-    let w = c .before in
-    let s = w .before .before .before in
+    let s = c .before .before .before in
     let a = s .args in
-    sym (piece-get (a .len) (a .slot) _ (now (a .buf)) nan (below w))
+    sym (piece-get (a .len) (a .slot) _ (now (a .buf)) nan (mod-lt (c .before .wrapping-sub-usize .result) (s .pre .0)))
     ∙ ap (λ (i : ℕ). getD (piece (a .len) (a .slot) (now (a .buf))) i nan)
-    (w .wrapped .ensures ∙ cell-is (a .len) (a .cursor) (a .back) (w .before .wrapping-sub-usize .result) (omega arith) (omega arith) (omega arith) (w .before .wrapping-sub-usize .ensures))
+    (cell-is (a .len) (a .cursor) (a .back) (c .before .wrapping-sub-usize .result) (omega arith) (omega arith) (omega arith) (c .before .wrapping-sub-usize .ensures))
 
 pub cell-at-spec : {M : Type 1} → statement M
 cell-at-spec =
     tie.close
     (tie.spec
-    (λ c. search needs)
-    (λ c κs. search needs)
-    (λ c κs. c .before .before .pre .0)
-    (λ c. omega (arith, below c))
-    (λ c. omega (arith, below c))
-    (λ c. omega (arith, below (c .before)))
+    mul-base
+    wrapping-sub-usize-requires
+    rem-cell
+    add-result
+    mul-result
+    shared-slice-read-result
     returns)

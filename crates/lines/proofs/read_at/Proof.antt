@@ -34,7 +34,7 @@ int-to-float-t : tie.Need-int-to-float-t
 int-to-float-t c = let v = view (c .before .before .before) in let d = delay (c .before .before) in exact _ (omega (arith, c .before .whole-part .ensures))
 
 taps-requires : tie.Need-taps-requires
-taps-requires c κs = let v = view (c .before .before .before) in let d = delay (c .before .before) in let e = c .before .whole-part .ensures in (v .size, v .ends, omega arith, omega arith)
+taps-requires c κs = let v = view (c .before .before .before) in let d = delay (c .before .before) in let e = c .before .whole-part .ensures in (omega arith, v .ends, omega arith, omega arith)
 
 returns : tie.Need-returns
 unfolding readOf ringRead ofInt
