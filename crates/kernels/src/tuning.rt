@@ -172,20 +172,18 @@ pub fn blend_sections(
     blended: &mut [f32; 43],
     sections: &[f32; 160],
     active: u32,
-    reference: Ratio,
     pitch: Pitch,
-    x: f32,
-    y: f32,
+    p: Settings,
 )
-    requires { ⌜ KeptSections (now sections) active reference (now blended) ⌝ }
-    ensures { λ _. ⌜ (code ≡ 8 → now (blended .exit) ≡ poleNumbers (now (sections .entry)) active reference pitch x y) × (KeptSections (now (sections .entry)) active reference (now (blended .exit))) ⌝ }
+    requires { ⌜ KeptSections (now sections) active (p .«ref_over_rate») (now blended) ⌝ }
+    ensures { λ _. ⌜ (code ≡ 8 → now (blended .exit) ≡ poleNumbers (now (sections .entry)) active (p .«ref_over_rate») pitch (p .x) (p .y)) × (KeptSections (now (sections .entry)) active (p .«ref_over_rate») (now (blended .exit))) ⌝ }
 {
     if code != 8 {
         return;
     }
-    if is_blended(blended, pitch.0, x, y) {
+    if is_blended(blended, pitch.0, p.x, p.y) {
         return;
     }
-    let next = poles::pole_numbers(sections, active, reference, pitch, x, y);
+    let next = poles::pole_numbers(sections, active, pitch, p);
     *blended = next;
 }

@@ -104,17 +104,13 @@ fn running_section(
     }
 }
 
-// The numbers of all sections at a pitch, X and Y: five a section, then the pitch, X and Y.
-pub fn pole_numbers(
-    sections: &[f32; 160],
-    active: u32,
-    reference: Ratio,
-    pitch: Pitch,
-    x: f32,
-    y: f32,
-) -> [f32; 43]
-    ensures { λ r. ⌜ r ≡ poleNumbers (now (sections .entry)) active reference pitch x y ⌝ }
+// What follows from the pitch and the settings alone: the numbers of all sections, five a section, then the pitch, X and Y.
+pub fn pole_numbers(sections: &[f32; 160], active: u32, pitch: Pitch, p: Settings) -> [f32; 43]
+    ensures { λ r. ⌜ r ≡ poleNumbers (now (sections .entry)) active (p .«ref_over_rate») pitch (p .x) (p .y) ⌝ }
 {
+    let reference = p.ref_over_rate;
+    let x = p.x;
+    let y = p.y;
     let transpose = filter::octaves_of(pitch);
     let n = sections_run(active);
     let a = running_section(sections, x, y, transpose, reference, n, 0);

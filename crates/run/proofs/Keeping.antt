@@ -6,8 +6,7 @@ use mathlib.Core.List.{List}
 use lib.ListN.{getD}
 use lib.Ieee.{Float, nan}
 use Rattle.filter.specs.declared.Pitch.{Pitch}
-use Rattle.poles.specs.Numbers.{poleNumbers}
-use Rattle.kernels.specs.Tuning.{tuningOf, keyOf}
+use Rattle.kernels.specs.Tuning.{tuningOf, keyOf, KeptSections}
 use Rattle.kernels.specs.Keeping.{key-numbers}
 use Rattle.run.specs.declared.Constants.{Constants}
 use Rattle.run.specs.declared.Place.{Place}
@@ -18,8 +17,12 @@ pub key-settings : (code : ℕ) (pitch : Pitch) (k : Constants) (params : List F
 unfolding settingsOf
 key-settings code pitch k params at = key-numbers code pitch (k .«ref_over_rate») (getD params 7 nan) (getD params 0 nan) (getD params 3 nan) (at .x) (at .y)
 
-pub place-settings : (sections : List Float) (active : ℕ) (pitch : Pitch) (k : Constants) (params : List Float) (at : Place)
-    → poleNumbers sections active (k .«ref_over_rate») pitch (at .x) (at .y)
-    ≡ poleNumbers sections active (settingsOf k params at .«ref_over_rate») pitch (settingsOf k params at .x) (settingsOf k params at .y)
-unfolding settingsOf
-place-settings sections active pitch k params at = refl
+-- the settings' reference is the constants'
+module _ (sections : List Float) (active : ℕ) (k : Constants) (params : List Float) (at : Place) (t : List Float) where
+  pub to-settings : KeptSections sections active (k .«ref_over_rate») t → KeptSections sections active (settingsOf k params at .«ref_over_rate») t
+  unfolding settingsOf
+  to-settings h = h
+
+  pub from-settings : KeptSections sections active (settingsOf k params at .«ref_over_rate») t → KeptSections sections active (k .«ref_over_rate») t
+  unfolding settingsOf
+  from-settings h = h

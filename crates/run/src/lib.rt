@@ -199,16 +199,7 @@ fn kernel_tick(
     let p = settings_of(k, params, lagged);
     let reference = k.ref_over_rate;
     kernels::tuning::retune(code, tuning, Pitch(lagged.pitch), reference, params[7]);
-    kernels::tuning::blend_sections(
-        code,
-        blended,
-        sections,
-        active,
-        reference,
-        Pitch(lagged.pitch),
-        lagged.x,
-        lagged.y,
-    );
+    kernels::tuning::blend_sections(code, blended, sections, active, Pitch(lagged.pitch), p);
     kernels::kernel(
         code,
         sections,

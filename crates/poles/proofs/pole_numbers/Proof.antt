@@ -44,9 +44,9 @@ returns c =
     let c1 = c2 .before in
     let run = c1 .before .sections-run in
     let octaves = c1 .before .before .octaves-of in
-    let a = c1 .before .before .before .args in
-    let same : (j : ℕ) → running (run .result) (poleSection (now (a .sections)) (a .x) (a .y) (octaves .result) (a .reference)) j ≡ running (min (a .active) 8) (poleSection (now (a .sections)) (a .x) (a .y) (octavesOf (a .pitch)) (a .reference)) j
-    = λ j t. running (run .ensures t) (poleSection (now (a .sections)) (a .x) (a .y) (octaves .ensures t) (a .reference)) j in
+    let a = c1 .before .before .before .before .args in
+    let same : (j : ℕ) → running (run .result) (poleSection (now (a .sections)) (a .p .x) (a .p .y) (octaves .result) (a .p .«ref_over_rate»)) j ≡ running (min (a .active) 8) (poleSection (now (a .sections)) (a .p .x) (a .p .y) (octavesOf (a .pitch)) (a .p .«ref_over_rate»)) j
+    = λ j t. running (run .ensures t) (poleSection (now (a .sections)) (a .p .x) (a .p .y) (octaves .ensures t) (a .p .«ref_over_rate»)) j in
     (λ t.
     listed
     ((c1 .running-section .ensures ∙ same 0) t)
@@ -58,9 +58,9 @@ returns c =
     ((c7 .running-section7 .ensures ∙ same 6) t)
     ((c .running-section8 .ensures ∙ same 7) t)
     (a .pitch .0)
-    (a .x)
-    (a .y))
-    ∙ listed-is (now (a .sections)) (a .active) (a .reference) (a .pitch) (a .x) (a .y)
+    (a .p .x)
+    (a .p .y))
+    ∙ listed-is (now (a .sections)) (a .active) (a .p .«ref_over_rate») (a .pitch) (a .p .x) (a .p .y)
 
 pub pole-numbers-spec : {M : Type 1} → statement M
 pole-numbers-spec =

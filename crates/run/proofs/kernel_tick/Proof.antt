@@ -1,17 +1,24 @@
 -- `run::kernel_tick` meets its contract: each call gives its part of the definition.
 use borrow.Author.Needs.{needs}
-use mathlib.Core.Path.{sym, ap, _∙_}
+use mathlib.Core.Path.{sym, ap, _∙_, subst}
 use denote.Ref.{now}
 use Rattle.filter.specs.declared.Pitch.{Pitch}
 use Rattle.extended.specs.declared.Settings.{Settings}
-use Rattle.poles.specs.Numbers.{poleNumbers}
 use Rattle.run.specs.declared.Place.{Place}
 use Rattle.run.specs.Run.{kernelTick}
-use Rattle.kernels.specs.Tuning.{tuningOf}
+use Rattle.kernels.specs.Tuning.{tuningOf, KeptSections}
 use Rattle.kernels.specs.Keeping.{kept}
-use Rattle.run.proofs.Keeping.{key-settings, place-settings}
+use Rattle.run.proofs.Keeping.{key-settings, to-settings, from-settings}
 use Rattle.run.proofs.kernel_tick.Statement.{statement}
 use Rattle.run.proofs.kernel_tick.Tie as tie
+
+blend-sections-requires : tie.Need-blend-sections-requires
+blend-sections-requires c κs =
+    let start = c .before .before .before .before .before .before .before .before .before .before .before in
+    let a = start .args in
+    let lagged : Place = c .before .before .before .before .before .before .before .lag .result in
+    subst (λ (p : Settings). KeptSections (now (a .sections)) (a .active) (p .«ref_over_rate») (now (a .blended))) (sym (c .before .before .before .before .before .settings-of .ensures))
+    (to-settings (now (a .sections)) (a .active) (a .k) (now (a .params)) lagged (now (a .blended)) (start .pre .2))
 
 kernel-requires : tie.Need-kernel-requires
 kernel-requires c κs =
@@ -24,9 +31,7 @@ kernel-requires c κs =
       c .before .before .before .before .before .before .retune .ensures
           ∙ key-settings (a .code) pitch (a .k) (now (a .params)) lagged
           ∙ ap (λ (p : Settings). tuningOf (a .code) pitch p) (sym settings),
-      λ e. c .before .before .before .before .blend-sections .ensures .0 e
-          ∙ place-settings (now (a .sections)) (a .active) pitch (a .k) (now (a .params)) lagged
-          ∙ ap (λ (p : Settings). poleNumbers (now (a .sections)) (a .active) (p .«ref_over_rate») pitch (p .x) (p .y)) (sym settings),
+      c .before .before .before .before .blend-sections .ensures .0,
     )
 
 returns : tie.Need-returns
@@ -34,10 +39,12 @@ unfolding kernelTick
 returns c =
     let settings = c .before .before .before .before .before .before .before .before .before .before .before .before .before in
     let a = c .before .before .before .before .before .before .before .before .before .before .before .before .before .before .before .before .before .before .before .args in
+    let blend = c .before .before .before .before .before .before .before .blend-sections in
     let lag = c .before .before .before .before .before .before .before .before .before .before .before .before .before .before .before .lag .ensures in (
       rw (← lag .0, ← lag .1, ← settings .before .drive .ensures, ← settings .settings-of .ensures) (c .before .before .kernel .ensures),
       kept (a .code) (a .k .«ref_over_rate») _ _ _ (c .before .before .before .before .before .before .before .before .before .retune .ensures),
-      c .before .before .before .before .before .before .before .blend-sections .ensures .1,
+      from-settings (now (a .sections)) (a .active) (a .k) (now (a .params)) (c .before .before .before .before .before .before .before .before .before .before .before .before .before .before .before .lag .result) (blend .last .1 .0)
+          (subst (λ (p : Settings). KeptSections (now (a .sections)) (a .active) (p .«ref_over_rate») (blend .last .1 .0)) (settings .settings-of .ensures) (blend .ensures .1)),
     )
 
 pub kernel-tick-spec : {M : Type 1} → statement M
@@ -45,5 +52,5 @@ kernel-tick-spec =
     tie.close
     (tie.spec
     (λ c. search needs) (λ c κs. tt) (λ c κs. tt) (λ c κs. tt) (λ c. search needs)
-    (λ c κs. c .before .before .before .before .before .before .before .before .before .pre .1) (λ c κs. c .before .before .before .before .before .before .before .before .before .before .before .pre .2) kernel-requires
+    (λ c κs. c .before .before .before .before .before .before .before .before .before .pre .1) blend-sections-requires kernel-requires
     (λ c. search needs) returns)

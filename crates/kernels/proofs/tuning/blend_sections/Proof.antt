@@ -16,7 +16,7 @@ returns-2 c =
     let s = c .before .before .before .before in
     let a = s .args in
     let key = c .before .is-blended .ensures (c .if2 .taken) in (
-      λ e. s .pre (key .0) ∙ (λ i. poleNumbers (now (a .sections)) (a .active) (a .reference) (record { 0 = key .1 i }) (key .2 i) (key .3 i)),
+      λ e. s .pre (key .0) ∙ (λ i. poleNumbers (now (a .sections)) (a .active) (a .p .«ref_over_rate») (record { 0 = key .1 i }) (key .2 i) (key .3 i)),
       s .pre,
     )
 
@@ -24,7 +24,7 @@ returns-3 : tie.Need-returns-3
 returns-3 c =
     let a = c .before .before .before .before .before .args in
     let e = c .pole-numbers .ensures in
-    (λ k. e, kept-sections (now (a .sections)) (a .active) (a .reference) (a .pitch) (a .x) (a .y) _ e)
+    (λ k. e, kept-sections (now (a .sections)) (a .active) (a .p .«ref_over_rate») (a .pitch) (a .p .x) (a .p .y) _ e)
 
 pub blend-sections-spec : {M : Type 1} → statement M
 blend-sections-spec = tie.close (tie.spec returns (λ c κs. tt) returns-2 (λ c κs. tt) returns-3)
