@@ -21,6 +21,7 @@ count "layout (rt fmt --check)" rt fmt --check
 [ "$failed" -eq 0 ] || finish
 
 log=$(mktemp)
+# more jobs than cores, since rt waits for a whole batch
 RT_JOBS=${RT_JOBS:-6} rt ci | tee "$log"
 read -r n _ m _ < <(tail -n 1 "$log")
 rm -f "$log"

@@ -1,8 +1,10 @@
 -- From the kept list, the coefficients of each structure are those of its pitch and settings; and what was worked out at a key is
 -- kept at it. By unfolding. Assumes nothing.
-use mathlib.Core.Path.{_≡_, refl, sym, ap, _∙_}
+use mathlib.Core.Path.{_≡_, refl, sym, ap, _∙_, subst}
+use mathlib.Core.Bool.{Bool, true, false, cond}
 use Prim.Native.Nat.{ℕ}
 use mathlib.Core.List.{List}
+use lib.Dec.{eqb}
 use lib.ListN.{getD}
 use lib.Ieee.{Float, nan}
 use Rattle.filter.specs.declared.Pitch.{Pitch}
@@ -14,7 +16,7 @@ use Rattle.expanders.specs.Expanders.{expanderCoefficients, expanderWith, multi
 use Rattle.combs.specs.Combs.{combCoefficients, combWith}
 use Rattle.poles.specs.Poles.{poleCoefficients, poleStep}
 use Rattle.poles.specs.Numbers.{poleNumbers, sectionAt, numbers-step}
-use Rattle.kernels.specs.Tuning.{threeNumbers, djNumbers, diodeNumbers, drivenNumbers, combNumbers, bandNumbers, multimodeNumbers, k35Numbers, numbersOf, tuningOf, acidFrom, cleanFrom, expanderFrom, weightsFrom, keyOf, Kept, KeptSections}
+use Rattle.kernels.specs.Tuning.{threeNumbers, djNumbers, diodeNumbers, drivenNumbers, combNumbers, bandNumbers, multimodeNumbers, k35Numbers, numbersOf, tuningOf, acidFrom, cleanFrom, expanderFrom, weightsFrom, keyOf, Kept, blendedOf, KeptSections}
 
 module _ (code : ℕ) (t : List Float) (pitch : Pitch) (p : Settings) (e : t ≡ tuningOf code pitch p) where
   at : (n : ℕ) → code ≡ n → t ≡ tuningOf n pitch p
@@ -81,11 +83,19 @@ unfolding Kept tuningOf keyOf
 kept code reference pitch character t e h =
     e ∙ (λ i. tuningOf code (record { 0 = getD (sym e i) 8 nan }) (keyOf reference (getD (sym e i) 9 nan)))
 
-pub kept-sections : (sections : List Float) (active : ℕ) (reference : Ratio) (pitch : Pitch) (x y : Float) (t : List Float)
-    → t ≡ poleNumbers sections active reference pitch x y → KeptSections sections active reference t
-unfolding KeptSections poleNumbers
-kept-sections sections active reference pitch x y t e h =
-    e ∙ (λ i. poleNumbers sections active reference (record { 0 = getD (sym e i) 40 nan }) (getD (sym e i) 41 nan) (getD (sym e i) 42 nan))
+module _ (code : ℕ) (sections : List Float) (active : ℕ) (reference : Ratio) (pitch : Pitch) (x y : Float) (before after : List Float)
+    (e : after ≡ blendedOf code sections active reference pitch x y before) where
+  pub blended-at : code ≡ 8 → after ≡ poleNumbers sections active reference pitch x y
+  unfolding blendedOf
+  blended-at k = e ∙ ap (λ (n : ℕ). cond (eqb n 8) (poleNumbers sections active reference pitch x y) before) k
+
+  pub blended-kept : KeptSections sections active reference before → KeptSections sections active reference after
+  unfolding KeptSections poleNumbers blendedOf
+  blended-kept h = subst (KeptSections sections active reference) (sym e) (go (eqb code 8))
+    where
+      go : (b : Bool) → KeptSections sections active reference (cond b (poleNumbers sections active reference pitch x y) before)
+      go true = λ n. refl
+      go false = h
 
 -- a step on the kept numbers is a step on the sections
 pub sections-step : (code : ℕ) (sections : List Float) (active : ℕ) (gain : Float) (pitch : Pitch) (p : Settings) (t : List Float)

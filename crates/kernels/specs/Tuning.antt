@@ -95,6 +95,10 @@ unfoldable pub Kept : ℕ → Ratio → List Float → Type 0
 Kept code reference t =
     isNan (getD t 8 nan) ≡ false → t ≡ tuningOf code (record { 0 = getD t 8 nan }) (keyOf reference (getD t 9 nan))
 
+-- PoleZero's list at a pitch, x and y; any other structure leaves it as it was
+unfoldable pub blendedOf : (code : ℕ) (sections : List Float) (active : ℕ) → Ratio → Pitch → (x y : Float) → List Float → List Float
+blendedOf code sections active reference pitch x y t = cond (eqb code 8) (poleNumbers sections active reference pitch x y) t
+
 -- PoleZero's kept list: unless its pitch is NaN, its numbers are those of its pitch, x and y
 unfoldable pub KeptSections : (sections : List Float) (active : ℕ) → Ratio → List Float → Type 0
 KeptSections sections active reference t =

@@ -4,8 +4,7 @@ ghost use mathlib.Core.Path.{_≡_};
 ghost use mathlib.Core.Bool.{true, false};
 ghost use lib.ListN.{getD};
 ghost use lib.Ieee.{nan, isNan};
-ghost use Rattle.kernels.specs.Tuning.{threeNumbers, djNumbers, diodeNumbers, drivenNumbers, combNumbers, bandNumbers, multimodeNumbers, k35Numbers, numbersOf, tuningOf, keyOf, Kept, KeptSections};
-ghost use Rattle.poles.specs.Numbers.{poleNumbers};
+ghost use Rattle.kernels.specs.Tuning.{threeNumbers, djNumbers, diodeNumbers, drivenNumbers, combNumbers, bandNumbers, multimodeNumbers, k35Numbers, numbersOf, tuningOf, keyOf, Kept, blendedOf, KeptSections};
 use combs::Comb2;
 use expanders::Expander;
 use expanders::K35;
@@ -176,7 +175,7 @@ pub fn blend_sections(
     p: Settings,
 )
     requires { ⌜ KeptSections (now sections) active (p .«ref_over_rate») (now blended) ⌝ }
-    ensures { λ _. ⌜ (code ≡ 8 → now (blended .exit) ≡ poleNumbers (now (sections .entry)) active (p .«ref_over_rate») pitch (p .x) (p .y)) × (KeptSections (now (sections .entry)) active (p .«ref_over_rate») (now (blended .exit))) ⌝ }
+    ensures { λ _. ⌜ now (blended .exit) ≡ blendedOf code (now (sections .entry)) active (p .«ref_over_rate») pitch (p .x) (p .y) (now (blended .entry)) ⌝ }
 {
     if code != 8 {
         return;

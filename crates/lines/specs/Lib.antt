@@ -1,7 +1,6 @@
 pub mod Lines
 pub mod Order
 pub mod Whole
-pub mod Digits
 pub mod Length
 pub mod Delay
 pub mod View

@@ -1,12 +1,12 @@
 -- The numbers of a table's sections at one pitch, X and Y, as a list: five a section, for the sections that run, then the pitch, X and Y.
 -- Definitions, and the law that the sections of that list are the table's. Assumes nothing.
 use mathlib.Core.Path.{_≡_, refl, ap, _∙_}
-use Prim.Native.Nat.{ℕ, _+_, _*_, _/_, _%_, _<_, _≤_, min}
+use Prim.Native.Nat.{ℕ, _+_, _*_, _/_, _%_, _<_, min}
 use native.Mathlib.Omega.{arith}
 use mathlib.Core.Bool.{cond}
 use mathlib.Core.List.{List, [], _∷_, _++_}
 use lib.Dec.{eqb, ltb}
-use lib.ListN.{length, getD, List·getD-append}
+use lib.ListN.{getD, List·getD-append}
 use lib.Ieee.{Float, nan}
 use borrow.Author.Tests.{lt-ltb}
 use Rattle.parts.specs.Parts.{tab, upto-same, length-tab, tab-at}
@@ -62,9 +62,10 @@ module _ (sections : List Float) (active : ℕ) (reference : Ratio) (pitch : Pit
   unfolding running
   runs n j h = simp (lt-ltb j n h)
 
-  section-at : (j : ℕ) → j < 8 → j < min active 8 → sectionAt (poleNumbers sections active reference pitch x y) j ≡ section j
+  section-at : (j : ℕ) → j < min active 8 → sectionAt (poleNumbers sections active reference pitch x y) j ≡ section j
   unfolding sectionAt
-  section-at j h r =
+  section-at j r =
+      let h : j < 8 = omega arith in
       (λ t. record {
         g = at j 0 (5 * j) h (omega arith) (omega arith) t;
         k = at j 1 (5 * j + 1) h (omega arith) refl t;
@@ -80,4 +81,4 @@ module _ (sections : List Float) (active : ℕ) (reference : Ratio) (pitch : Pit
   numbers-step gain state v =
       ap (λ (d : Ticked). record { out = d .out ⊗ gain; state = d .state })
       (upto-same _ (λ j. poleStage (section j) j) (min active 8) (record { out = v; state = state })
-      (λ j d h. ap (λ (c : PoleSection). poleStage c j d) (section-at j (omega arith) h)))
+      (λ j d h. ap (λ (c : PoleSection). poleStage c j d) (section-at j h)))

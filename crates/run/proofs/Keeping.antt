@@ -6,8 +6,8 @@ use mathlib.Core.List.{List}
 use lib.ListN.{getD}
 use lib.Ieee.{Float, nan}
 use Rattle.filter.specs.declared.Pitch.{Pitch}
-use Rattle.kernels.specs.Tuning.{tuningOf, keyOf, KeptSections}
-use Rattle.kernels.specs.Keeping.{key-numbers}
+use Rattle.kernels.specs.Tuning.{tuningOf, keyOf, blendedOf, KeptSections}
+use Rattle.kernels.specs.Keeping.{key-numbers, blended-kept}
 use Rattle.run.specs.declared.Constants.{Constants}
 use Rattle.run.specs.declared.Place.{Place}
 use Rattle.run.specs.Run.{settingsOf}
@@ -18,11 +18,13 @@ unfolding settingsOf
 key-settings code pitch k params at = key-numbers code pitch (k .«ref_over_rate») (getD params 7 nan) (getD params 0 nan) (getD params 3 nan) (at .x) (at .y)
 
 -- the settings' reference is the constants'
-module _ (sections : List Float) (active : ℕ) (k : Constants) (params : List Float) (at : Place) (t : List Float) where
-  pub to-settings : KeptSections sections active (k .«ref_over_rate») t → KeptSections sections active (settingsOf k params at .«ref_over_rate») t
+module _ (sections : List Float) (active : ℕ) (k : Constants) (params : List Float) (at : Place) where
+  pub to-settings : (t : List Float) → KeptSections sections active (k .«ref_over_rate») t → KeptSections sections active (settingsOf k params at .«ref_over_rate») t
   unfolding settingsOf
-  to-settings h = h
+  to-settings t h = h
 
-  pub from-settings : KeptSections sections active (settingsOf k params at .«ref_over_rate») t → KeptSections sections active (k .«ref_over_rate») t
+  pub settings-kept : (code : ℕ) (pitch : Pitch) (before after : List Float)
+      → after ≡ blendedOf code sections active (settingsOf k params at .«ref_over_rate») pitch (settingsOf k params at .x) (settingsOf k params at .y) before
+      → KeptSections sections active (k .«ref_over_rate») before → KeptSections sections active (k .«ref_over_rate») after
   unfolding settingsOf
-  from-settings h = h
+  settings-kept code pitch before after = blended-kept code sections active (k .«ref_over_rate») pitch (at .x) (at .y) before after

@@ -9,13 +9,12 @@ use lib.Pow.{pow-pos, pow-add, pow-mono}
 use lib.Count.{leadingZeros, leading-top}
 use lib.Ieee.{Float, nan, inf, fin, binary32, up, down, div, ofBits, lt, eq, ne, level}
 use lib.Ieee.Bits.{is-true}
-use lib.Ieee.Exact.{odd-sign}
 use lib.Ieee.Fits.{down-pos, up-pos}
 use borrow.Author.Tests.{le-ltb, ltb-false}
 use lib.Ieee.Positive.{positive}
 use Rattle.sqrt.specs.Root.{rootOf, rootUnits}
 use Rattle.sqrt.specs.Nearest.{IsUnits}
-use Rattle.bits.specs.Patterns.{normal, small-is}
+use Rattle.bits.specs.Patterns.{normal-value, small-value}
 
 -- ---- the tests on floats
 pub nan-stays : (x : Float) → ne x x ≡ true → x ≡ rootOf x
@@ -64,10 +63,7 @@ by-value (fin false (suc m) e) X v h = ap (λ (z : ℕ). rootUnits (z * 2 ^ 149)
 shifted : (m a b c : ℕ) → a + b ≡ c → m * 2 ^ a * 2 ^ b ≡ m * 2 ^ c
 shifted m a b c h = mul-assoc m (2 ^ a) (2 ^ b) ∙ ap (λ (z : ℕ). m * z) (sym (pow-add 2 a b) ∙ ap (λ (z : ℕ). 2 ^ z) h)
 
--- a normal number: its value in units, and that value times 2 ^ 149 as the code has it
-pub normal-units : (b : ℕ) → 8388608 ≤ b → b < 2139095040 → IsUnits (ofBits binary32 b) ((8388608 + b % 8388608) * 2 ^ (b / 8388608 - 1))
-normal-units b h k = subst (λ (x : Float). IsUnits x ((8388608 + b % 8388608) * 2 ^ (b / 8388608 - 1))) (sym (normal b h k)) (odd-sign 24 false (8388608 + b % 8388608) (b / 8388608 - 1) 149)
-
+-- a normal number: its value in units, times 2 ^ 149, as the code has it
 pub normal-scale : (b : ℕ) → 8388608 ≤ b → (8388608 + b % 8388608) * 2 ^ (b / 8388608 - 1) * 2 ^ 149 ≡ (b % 8388608 + 8388608) * 2 ^ (b / 8388608 + 127 + 21)
 normal-scale b h =
     shifted (8388608 + b % 8388608) (b / 8388608 - 1) 149 (b / 8388608 + 127 + 21) (omega arith)
@@ -75,7 +71,7 @@ normal-scale b h =
 
 pub normal-case : (b : ℕ) → 8388608 ≤ b → b < 2139095040 → rootOf (ofBits binary32 b) ≡ rootUnits ((b % 8388608 + 8388608) * 2 ^ (b / 8388608 + 127 + 21))
 normal-case b h k =
-    by-value (ofBits binary32 b) ((8388608 + b % 8388608) * 2 ^ (b / 8388608 - 1)) (normal-units b h k) (mul-pos (lead b) (pow-pos (b / 8388608 - 1)))
+    by-value (ofBits binary32 b) ((8388608 + b % 8388608) * 2 ^ (b / 8388608 - 1)) (normal-value b h k) (mul-pos (lead b) (pow-pos (b / 8388608 - 1)))
     ∙ ap rootUnits (normal-scale b h)
   where
     lead : (b : ℕ) → 0 < 8388608 + b % 8388608
@@ -110,11 +106,8 @@ normalize b h l =
     up : (j k : ℕ) → j + k ≡ 23 → suc j + k ≡ 24
     up j k e = omega arith
 
-pub small-units : (b : ℕ) → b < 8388608 → IsUnits (ofBits binary32 b) (b * 2 ^ 0)
-small-units b l = subst (λ (x : Float). IsUnits x (b * 2 ^ 0)) (sym (small-is b l)) (odd-sign 24 false b 0 149)
-
 pub small-scale : (b k : ℕ) → k ≤ 23 → b * 2 ^ 0 * 2 ^ 149 ≡ b * 2 ^ k * 2 ^ (128 - k + 21)
 small-scale b k g = shifted b 0 149 149 refl ∙ sym (shifted b k (128 - k + 21) 149 (omega arith))
 
 pub small-case : (b k : ℕ) → 0 < b → b < 8388608 → k ≤ 23 → rootOf (ofBits binary32 b) ≡ rootUnits (b * 2 ^ k * 2 ^ (128 - k + 21))
-small-case b k h l g = by-value (ofBits binary32 b) (b * 2 ^ 0) (small-units b l) (mul-pos h (pow-pos 0)) ∙ ap rootUnits (small-scale b k g)
+small-case b k h l g = by-value (ofBits binary32 b) (b * 2 ^ 0) (small-value b l) (mul-pos h (pow-pos 0)) ∙ ap rootUnits (small-scale b k g)

@@ -3,7 +3,7 @@
 use mathlib.Core.Path.{_≡_, refl, sym, ap, _∙_, subst}
 use mathlib.Core.Bool.{Bool, true, false, cond}
 use Prim.Native.Nat.{ℕ, zero, suc, _+_, _-_, _*_, _/_, _%_, _^_, _≤_, _<_}
-use native.Mathlib.Nat.{le-trans, le-of-eq, lt-of-lt-of-le, lt-of-not-le, mul-le-mul, mul-le-mul-right, mul-lt-mul-of-pos-right, mul-pos, mul-assoc, div-eq-of-lt-le, pow-succ', lt-irrefl, le-of-suc-le-suc}
+use native.Mathlib.Nat.{le-trans, le-of-eq, lt-of-lt-of-le, lt-of-not-le, mul-le-mul, mul-le-mul-right, mul-lt-mul-of-pos-right, mul-pos, mul-assoc, div-eq-of-lt-le, pow-succ', lt-irrefl, le-of-suc-le-suc, mod-eq-of-lt}
 use native.Mathlib.Numerals.{add-one}
 use native.Mathlib.Omega.{arith}
 use lib.Dec.{leb}
@@ -160,6 +160,13 @@ split m e a b c = record { low = go (e % 2) (omega arith) .0; high = go (e % 2) 
     go zero h = (omega arith, omega arith)
     go (suc zero) h = (omega arith, omega arith)
     go (suc (suc p)) h = absurd (omega arith)
+
+-- and the shift that makes M loses no digit
+pub split-whole : {m e M : ℕ} → Split m e M → M % 18446744073709551616 ≡ M
+split-whole {M = M} p = mod-eq-of-lt (wide M (p .high))
+  where
+    wide : (a : ℕ) → a ≤ 281474959933440 → a < 18446744073709551616
+    wide a h = omega arith
 
 pub scaled-root : (m e M r : ℕ) → m < 16777216 → e ≤ 381 → Split m e M → NearestWhole M r → rootUnits (m * 2 ^ (e + 21)) ≡ odd 24 false r (e / 2 - 1) 149
 scaled-root m e M r a b p v = ap rootUnits (sym (p .is)) ∙ root-is M (e / 2 - 1) r (p .low) v (subst (λ (z : ℕ). z < 4 ^ 213) (sym (p .is)) (lt-of-lt-of-le (shl-lt 24 (e + 21) a) (pow-mono {j = 426} (omega arith))))

@@ -16,12 +16,12 @@ use lib.Ieee.Exact.{odd-sign}
 use lib.Ieee.Fits.{odd-fits}
 use lib.Ieee.Positive.{positive, den, den-pos, value→cross, value-pos, positive-of-value}
 use borrow.Author.Tests.{leb-true, leb-false}
-use Rattle.bits.specs.Patterns.{bits-under}
+use Rattle.bits.specs.Patterns.{bits-under, normal-value, small-value}
 use Rattle.sqrt.specs.Root.{isqrt, rootOf, rootUnits, NearestWhole}
 use Rattle.sqrt.specs.Nearest.{IsUnits, Nearer, NearestRoot, RootIsNearest}
 use Rattle.sqrt.proofs.Squares.{not-most, moved}
 use Rattle.sqrt.proofs.Isqrt.{Floor, isqrt-floor, split, scaled-root}
-use Rattle.sqrt.proofs.Cases.{by-value, normal-units, normal-scale, small-units, small-scale, normalize}
+use Rattle.sqrt.proofs.Cases.{by-value, normal-scale, small-scale, normalize}
 
 -- ---- the points half way to numbers of the same grid, P = 2 ^ k apart
 over : (m r P Y : ℕ) → 0 < P → m ≤ r * (r + 1) → (r + 1) * P ≤ Y → 4 * (m * (P * P)) < (r * P + Y) * (r * P + Y)
@@ -124,8 +124,8 @@ from-bits : (b : ℕ) (Y : ℕ) → b < 2139095040 → IsUnits (ofBits binary32 
 from-bits b Y h v = go (leb 8388608 b) refl
   where
     go : (s : Bool) → leb 8388608 b ≡ s → Grid Y
-    go true e = record { t = 8388608 + b % 8388608; j = b / 8388608 - 1; small = omega arith; is = same-units (ofBits binary32 b) Y _ v (normal-units b (leb-true 8388608 b e) h) }
-    go false e = let l = leb-false 8388608 b e in record { t = b; j = 0; small = omega arith; is = same-units (ofBits binary32 b) Y _ v (small-units b l) }
+    go true e = record { t = 8388608 + b % 8388608; j = b / 8388608 - 1; small = omega arith; is = same-units (ofBits binary32 b) Y _ v (normal-value b (leb-true 8388608 b e) h) }
+    go false e = let l = leb-false 8388608 b e in record { t = b; j = 0; small = omega arith; is = same-units (ofBits binary32 b) Y _ v (small-value b l) }
 
 on-grid : (y : Float) (Y : ℕ) → T (fits binary32 y) → IsUnits y Y → Grid Y
 on-grid y zero f v = record { t = 0; j = 0; small = omega arith; is = refl }
@@ -200,12 +200,12 @@ at-bits b h p = go (leb 8388608 b) refl
     go true e =
         let l = leb-true 8388608 b e in
         let X = (8388608 + b % 8388608) * 2 ^ (b / 8388608 - 1) in
-        let v = normal-units b l h in
+        let v = normal-value b l h in
         scaled (ofBits binary32 b) X (b % 8388608 + 8388608) (b / 8388608 + 127) v (value-pos (ofBits binary32 b) X (2 ^ 149) p (pow-pos 149) v) (normal-scale b l) (omega arith) (omega arith) (omega arith) (omega arith)
     go false e =
         let l = leb-false 8388608 b e in
         let X = b * 2 ^ 0 in
-        let v = small-units b l in
+        let v = small-value b l in
         let q = value-pos (ofBits binary32 b) X (2 ^ 149) p (pow-pos 149) v in
         let w = normalize b (omega (arith, q)) l .1 in
         let k = leadingZeros 32 b - 8 in

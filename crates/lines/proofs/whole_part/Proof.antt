@@ -4,7 +4,7 @@ use native.Mathlib.Omega.{arith}
 use lib.Dec.{T}
 use lib.Ieee.{binary32, ofBits, toBits}
 use Rattle.lines.specs.Lines.{wholePart}
-use Rattle.lines.specs.Digits.{Fields, fields, number}
+use Rattle.lines.proofs.Digits.{Fields, fields, number}
 use Rattle.lines.proofs.whole_part.Statement.{statement}
 use Rattle.lines.proofs.whole_part.Tie as tie
 

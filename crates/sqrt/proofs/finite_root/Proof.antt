@@ -1,24 +1,16 @@
 -- `finite_root` meets its contract: the whole root that `near_root` gives is the f32's significand. Assumes nothing.
 use mathlib.Core.Path.{_≡_, sym, _∙_, subst}
 use Prim.Native.Nat.{ℕ, _/_, _-_, _+_, _*_, _%_, _^_, _≤_, _<_}
-use native.Mathlib.Nat.{mod-eq-of-lt}
 use native.Mathlib.Omega.{arith}
 use Rattle.bits.specs.Patterns.{pack, plain}
 use Rattle.sqrt.specs.Root.{NearestWhole}
-use Rattle.sqrt.proofs.Isqrt.{Split, split, scaled-root}
+use Rattle.sqrt.proofs.Isqrt.{Split, split, split-whole, scaled-root}
 use borrow.Author.Needs.{needs}
 use Rattle.sqrt.proofs.finite_root.Statement.{statement}
 use Rattle.sqrt.proofs.finite_root.Tie as tie
 
 parts : (c : tie.Start) → Split (c .args .m) (c .args .e) (c .args .m * 2 ^ (23 + c .args .e % 2))
 parts c = split (c .args .m) (c .args .e) (search needs) (search needs) (search needs)
-
--- the shift loses no digit
-whole : (c : tie.Start) → c .args .m * 2 ^ (23 + c .args .e % 2) % 18446744073709551616 ≡ c .args .m * 2 ^ (23 + c .args .e % 2)
-whole c = mod-eq-of-lt (wide (c .args .m * 2 ^ (23 + c .args .e % 2)) (parts c .high))
-  where
-    wide : (a : ℕ) → a ≤ 281474959933440 → a < 18446744073709551616
-    wide a h = omega arith
 
 add-near-root : tie.Need-add-near-root
 add-near-root c = search needs
@@ -30,7 +22,7 @@ shl-near-root : tie.Need-shl-near-root
 shl-near-root c = search needs
 
 near-root-requires : tie.Need-near-root-requires
-near-root-requires c κs = subst (λ (M : ℕ). (70368744177664 ≤ M) × (M ≤ 281474959933440)) (sym (whole c)) (parts c .low, parts c .high)
+near-root-requires c κs = subst (λ (M : ℕ). (70368744177664 ≤ M) × (M ≤ 281474959933440)) (sym (split-whole (parts c))) (parts c .low, parts c .high)
 
 sub-result : tie.Need-sub-result
 sub-result c = search needs
@@ -54,7 +46,7 @@ returns c =
     let n = c .near-root .result in
     let v = c .near-root .ensures in
     pack n (e / 2 - 1) (v .low) (v .high) (omega arith)
-    ∙ sym (scaled-root m e (m * 2 ^ (23 + e % 2)) n (search needs) (search needs) (parts (c .before)) (subst (λ (M : ℕ). NearestWhole M n) (whole (c .before)) v))
+    ∙ sym (scaled-root m e (m * 2 ^ (23 + e % 2)) n (search needs) (search needs) (parts (c .before)) (subst (λ (M : ℕ). NearestWhole M n) (split-whole (parts (c .before))) v))
 
 pub finite-root-spec : {M : Type 1} → statement M
 finite-root-spec =

@@ -1,15 +1,14 @@
 -- `root_in` meets its contract: a quick guess that passes the test is the root, and any other number's is `whole_root`'s. Assumes nothing.
 use mathlib.Core.Path.{_≡_, sym, ap, _∙_, subst}
-use mathlib.Core.Bool.{Bool, true, false, not, true≢false, false≢true}
+use mathlib.Core.Bool.{true, not, false≢true}
 use Prim.Native.Nat.{ℕ, _-_, _+_, _*_, _/_, _%_, _^_, _<_, _≤_}
-use native.Mathlib.Nat.{mod-eq-of-lt}
 use native.Mathlib.Omega.{arith}
 use lib.Dec.{T}
 use lib.Ieee.{Float, nan, inf, fin, binary32, fits, ofBits, toBits, eq, isNan}
 use lib.Ieee.Bits.{ofBits-toBits, toBits-lt}
 use Rattle.sqrt.specs.Root.{rootOf, rootUnits, NearestWhole}
 use Rattle.bits.specs.Patterns.{not-nan, pack}
-use Rattle.sqrt.proofs.Isqrt.{Split, split, scaled-root}
+use Rattle.sqrt.proofs.Isqrt.{Split, split, split-whole, scaled-root}
 use Rattle.sqrt.proofs.Cases.{nan-stays, normal-case}
 use borrow.Author.Needs.{needs}
 use Rattle.sqrt.proofs.root_in.Statement.{statement}
@@ -34,13 +33,6 @@ scaled b = (b % 8388608 + 8388608) * 2 ^ (23 + exponent b % 2)
 
 parts : (b : ℕ) → 8388608 ≤ b → b < 2139095040 → Split (b % 8388608 + 8388608) (exponent b) (scaled b)
 parts b h k = split (b % 8388608 + 8388608) (exponent b) (omega arith) (omega arith) (omega arith)
-
--- the shift loses no digit
-whole : (b : ℕ) → 8388608 ≤ b → b < 2139095040 → scaled b % 18446744073709551616 ≡ scaled b
-whole b h k = mod-eq-of-lt (wide (scaled b) (parts b h k .high))
-  where
-    wide : (a : ℕ) → a ≤ 281474959933440 → a < 18446744073709551616
-    wide a h = omega arith
 
 -- a pattern that n and the base make
 joined : (p base n : ℕ) → p < 4294967296 → n < 16777216 → base ≤ 1585446912 → (n + base) % 4294967296 ≡ p → p ≡ base + n
@@ -68,7 +60,7 @@ quick-guess-requires c κs =
     let k : b < 2139095040 = search needs in
     let w = parts b h k .high in
     let e = c .base-of .ensures in
-    (subst (λ (z : ℕ). z < 281474976710656) (sym (whole b h k)) (omega (arith, w)), omega arith)
+    (subst (λ (z : ℕ). z < 281474976710656) (sym (split-whole (parts b h k))) (omega (arith, w)), omega arith)
 
 is-nearest-requires : tie.Need-is-nearest-requires
 is-nearest-requires c κs =
@@ -77,7 +69,7 @@ is-nearest-requires c κs =
     let h : 8388608 ≤ b = c .before .before .before .before .before .if2 .taken in
     let k : b < 2139095040 = c .before .before .before .before .if3 .taken in
     let p = parts b h k in
-    (subst (λ (z : ℕ). 70368744177664 ≤ z) (sym (whole b h k)) (p .low), subst (λ (z : ℕ). z ≤ 281474959933440) (sym (whole b h k)) (p .high), omega arith)
+    (subst (λ (z : ℕ). 70368744177664 ≤ z) (sym (split-whole (parts b h k))) (p .low), subst (λ (z : ℕ). z ≤ 281474959933440) (sym (split-whole (parts b h k))) (p .high), omega arith)
 
 returns-2 : tie.Need-returns-2
 returns-2 c =
@@ -89,7 +81,7 @@ returns-2 c =
     let guess = c .before .before .before .before .quick-guess in
     let base = c .before .before .before .before .before .base-of in
     let n = c .before .before .wrapping-sub-u32 .result in
-    let v : NearestWhole (scaled b) n = subst (λ (m : ℕ). NearestWhole m n) (whole b h k) (c .before .is-nearest .ensures (c .if5 .taken)) in
+    let v : NearestWhole (scaled b) n = subst (λ (m : ℕ). NearestWhole m n) (split-whole (parts b h k)) (c .before .is-nearest .ensures (c .if5 .taken)) in
     let low = base .ensures in
     let high = v .high in
     nearest-is x (guess .result) n (held s) (guess .ensures) h k v

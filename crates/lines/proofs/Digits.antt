@@ -3,40 +3,38 @@
 use mathlib.Core.Path.{_≡_, refl, sym, ap, _∙_, subst}
 use mathlib.Core.Bool.{Bool, true, false, not, true≢false}
 use Prim.Native.Nat.{ℕ, zero, suc, _+_, _-_, _*_, _/_, _%_, _^_, _≤_, _<_, min}
-use native.Mathlib.Nat.{le-trans, le-of-eq, lt-of-lt-of-le, lt-of-not-le, lt-of-le-of-lt, mul-one, mul-le-mul, mul-le-mul-right, mul-lt-mul-of-pos-right, mul-assoc, div-eq-of-lt-le, le-div-iff-mul-le, div-lt-iff-lt-mul, min-eq-left, lt-irrefl, le-min, div-le-self, not-suc-le-zero, zero-mul, zero-lt-suc}
+use native.Mathlib.Nat.{le-trans, le-of-eq, lt-of-lt-of-le, lt-of-not-le, lt-of-le-of-lt, mul-one, mul-le-mul-right, mul-lt-mul-of-pos-right, mul-assoc, div-eq-of-lt-le, le-div-iff-mul-le, div-lt-iff-lt-mul, min-eq-left, le-of-suc-le-suc, le-min, div-le-self, not-suc-le-zero, zero-mul, zero-lt-suc}
 use native.Mathlib.Omega.{arith}
 use lib.Dec.{T, leb, lt→ltb}
 use lib.Pow.{pow-pos, pow-add, pow-mono}
 use lib.Ieee.{Float, nan, inf, fin, binary32, fits, up, down, ofBits, toBits, toUnsigned, isNan}
 use lib.Ieee.Bits.{ofBits-toBits}
-use lib.Ieee.Exact.{HasValue, odd-sign}
+use lib.Ieee.Exact.{HasValue}
 use lib.Ieee.Fits.{down-pos}
 use lib.Ieee.Positive.{positive}
 use borrow.Author.Tests.{leb-true, leb-false}
-use Rattle.bits.specs.Patterns.{normal, small-is, bits-under}
+use Rattle.bits.specs.Patterns.{normal-value, small-value, bits-under}
 use Rattle.lines.specs.Lines.{wholePart}
+
+-- q whole ones in n / c are in the equal fraction a / d too
+within : (a d n c q : ℕ) → 0 < c → a * c ≡ n * d → q * c ≤ n → q * d ≤ a
+within a d n c q p e h = le-of-suc-le-suc (lt-of-not-le (λ (g : suc a ≤ q * d). clash g))
+  where
+    clash : suc a ≤ q * d → ⊥
+    clash g = omega (arith, mul-le-mul-right c g, mul-le-mul-right d h)
 
 -- equal fractions have the same whole part
 same-floor : (a d n c : ℕ) → 0 < d → 0 < c → a * c ≡ n * d → a / d ≡ n / c
-same-floor a d n c dp cp e = div-eq-of-lt-le d (lt-of-not-le' low) (lt-of-not-le (λ (h : (n / c + 1) * d ≤ a). high h))
+same-floor a d n c dp cp e = div-eq-of-lt-le d (within a d n c q cp e (le-div-iff-mul-le {k = c} {x = q} {y = n} cp .0 (le-of-eq refl))) (lt-of-not-le over)
   where
     q : ℕ
     q = n / c
 
-    under : q * c ≤ n
-    under = le-div-iff-mul-le {k = c} {x = q} {y = n} cp .0 (le-of-eq refl)
+    next : n < suc q * c
+    next = div-lt-iff-lt-mul {k = c} {x = n} {y = suc q} cp .0 (le-of-eq refl)
 
-    over : n < suc q * c
-    over = div-lt-iff-lt-mul {k = c} {x = n} {y = suc q} cp .0 (le-of-eq refl)
-
-    low : suc a ≤ q * d → ⊥
-    low h = omega (arith, mul-le-mul-right c h, mul-le-mul-right d under)
-
-    lt-of-not-le' : (suc a ≤ q * d → ⊥) → q * d ≤ a
-    lt-of-not-le' h = omega arith
-
-    high : (q + 1) * d ≤ a → ⊥
-    high h = omega (arith, mul-le-mul-right c h, mul-lt-mul-of-pos-right over dp)
+    over : (q + 1) * d ≤ a → ⊥
+    over h = omega (arith, mul-le-mul-right c h, mul-lt-mul-of-pos-right next dp)
 
 whole-is : (x : Float) (N D : ℕ) → 0 < D → HasValue x false N D → N / D < 18446744073709551616 → wholePart x ≡ N / D
 unfolding toUnsigned
@@ -47,13 +45,7 @@ whole-is (fin false m e) N D p v h =
     let s : m * up e / down e ≡ N / D = same-floor (m * up e) (down e) N D (down-pos e) p (v .1) in
     ap (λ (z : ℕ). min z 18446744073709551615) s ∙ min-eq-left (omega arith)
 
--- ---- by the pattern's fields: M digits and the exponent k, M * 2 ^ k in units of 2 ^ -149
-
-value : (b : ℕ) → 8388608 ≤ b → b < 2139095040 → HasValue (ofBits binary32 b) false ((8388608 + b % 8388608) * 2 ^ (b / 8388608 - 1)) (2 ^ 149)
-value b h k = subst (λ (x : Float). HasValue x false ((8388608 + b % 8388608) * 2 ^ (b / 8388608 - 1)) (2 ^ 149)) (sym (normal b h k)) (odd-sign 24 false (8388608 + b % 8388608) (b / 8388608 - 1) 149)
-
-small-value : (b : ℕ) → b < 8388608 → HasValue (ofBits binary32 b) false (b * 2 ^ 0) (2 ^ 149)
-small-value b h = subst (λ (x : Float). HasValue x false (b * 2 ^ 0) (2 ^ 149)) (sym (small-is b h)) (odd-sign 24 false b 0 149)
+-- ---- by the pattern's fields: the digits M and the exponent k, M * 2 ^ k in units of 2 ^ -149
 
 zero-floor : (N D : ℕ) → 0 < D → N < D → N / D ≡ 0
 zero-floor N D p h = let z : N / D < 1 = div-lt-iff-lt-mul {k = D} {x = N} {y = 1} p .1 (omega arith) in omega arith
@@ -77,7 +69,7 @@ small-under b h = lt-of-lt-of-le (lt-of-le-of-lt (le-of-eq (mul-one b)) h) (pow-
 low-under : (M k : ℕ) → M < 16777216 → k ≤ 125 → M * 2 ^ k < 2 ^ 149
 low-under M k h l = lt-of-lt-of-le (mul-lt-mul-of-pos-right h (pow-pos k)) (le-trans (le-of-eq (sym (pow-add 2 24 k))) (pow-mono {i = 24 + k} {j = 149} (omega arith)))
 
--- an exponent field of 150 or more makes 2 ^ 17 at least
+-- an exponent field of 144 or more makes 2 ^ 17 at least
 high-over : (M k : ℕ) → 8388608 ≤ M → 143 ≤ k → 131072 * 2 ^ 149 ≤ M * 2 ^ k
 high-over M k h l = le-trans (le-of-eq (sym (pow-add 2 17 149))) (le-trans (pow-mono {i = 166} {j = 23 + k} (omega arith)) (le-trans (le-of-eq (pow-add 2 23 k)) (mul-le-mul-right (2 ^ k) h)))
 
@@ -86,13 +78,7 @@ unfolding toUnsigned
 at-least nan N D q p v h l = absurd v
 at-least (inf s) N D q p v h l = absurd v
 at-least (fin true m e) N D q p v h l = absurd (true≢false (v .0))
-at-least (fin false m e) N D q p v h l = le-min (le-div-iff-mul-le (down-pos e) .1 (lt-of-not-le' (over (m * up e) (down e) (v .1)))) l
-  where
-    lt-of-not-le' : (suc (m * up e) ≤ q * down e → ⊥) → q * down e ≤ m * up e
-    lt-of-not-le' h = omega arith
-
-    over : (a d : ℕ) → a * D ≡ N * d → suc a ≤ q * d → ⊥
-    over a d e g = omega (arith, mul-le-mul-right D g, mul-le-mul-right d h)
+at-least (fin false m e) N D q p v h l = le-min (le-div-iff-mul-le (down-pos e) .1 (within (m * up e) (down e) N D q p (v .1) h)) l
 
 -- ---- so a pattern whose whole part is from 1 to 65,536 has an exponent field from 127 to 143
 
@@ -114,7 +100,7 @@ fields-of b h l u = go (leb 8388608 b) refl
     go false e = let g = leb-false 8388608 b e in absurd (clash _ (none _ _ (small-value b g) (small-under b g)) l)
     go true e =
         let g = leb-true 8388608 b e in
-        let v = value b g h in
+        let v = normal-value b g h in
         let M : ℕ = 8388608 + b % 8388608 in
         let k : ℕ = b / 8388608 - 1 in
         let low : 126 ≤ k = lt-of-not-le {m = 125} (λ (w : k ≤ 125). clash _ (none _ _ v (low-under M k (omega arith) w)) l) in
