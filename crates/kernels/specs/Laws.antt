@@ -6,7 +6,7 @@ use mathlib.Core.List.{List}
 use lib.Dec.{eqb}
 use lib.ListN.{length, length-set}
 use lib.Ieee.{Float}
-use Rattle.parts.specs.Parts.{upto-keep}
+use Rattle.parts.specs.Laws.{upto-keep}
 use Rattle.lane.specs.Floats.{zero}
 use Rattle.lines.specs.Lines.{ringWrite}
 use Rattle.filter.specs.declared.Pitch.{Pitch}

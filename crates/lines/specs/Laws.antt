@@ -15,7 +15,8 @@ use borrow.Author.Tests.{le-leb}
 use lib.Ieee.{Float, nan, size}
 use lib.Ieee.Digits.{size-lt, size-le}
 use Rattle.lane.specs.Floats.{_⊖_, _⊗_, whole}
-use Rattle.parts.specs.Parts.{piece, patch, set-piece, length-piece, piece-patch, piece-other}
+use Rattle.parts.specs.Parts.{piece, patch}
+use Rattle.parts.specs.Laws.{set-piece, length-piece, piece-patch, piece-other}
 use Rattle.lines.specs.Lines.{wholePart, rateRefused, maxDelaySeconds, nextPower, ringLen, hermiteOf, held, cellOf, tapsOf, ringRead, ringWrite, isLength, isView, readOf, writeOf}
 use Rattle.lines.specs.Length.{eighth}
 use Rattle.lines.specs.Delay.{held-between}

@@ -11,7 +11,7 @@ use native.Mathlib.Omega.{arith}
 use lib.Dec.{leb, ltb, eqb}
 use types.Run.{OneOf}
 use borrow.Author.Tests.{eq-eqb, ne-eqb, eqb-true, leb-true, le-leb, lt-leb, ltb-true, ltb-false}
-use Rattle.parts.specs.Parts.{flat-low}
+use Rattle.parts.specs.Laws.{flat-low}
 use Rattle.lines.specs.Lines.{oneOf, lengths, isLength, isView, cellOf}
 
 -- ---- a number is one of a list's

@@ -7,6 +7,13 @@ ghost use lib.Ieee.{nan};
 ghost use Rattle.parts.specs.Parts.{piece};
 ghost use Rattle.lines.specs.Lines.{wholePart, rateRefused, nextPower, ringLen, hermiteOf, held, cellOf, tapsOf, isView, readOf, writeOf};
 
+// Where a slot's ring stands in the lent delay list: its length, the cursor and the slot.
+pub struct Ring {
+    pub len: usize,
+    pub cursor: usize,
+    pub slot: usize,
+}
+
 // The longest delay a bank's rings hold, in seconds at the rate it's made for.
 const MAX_DELAY_SECONDS: f32 = 0.125;
 

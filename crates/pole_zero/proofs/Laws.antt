@@ -9,7 +9,8 @@ use lib.Ieee.{isNan, lt, neg, round}
 use lib.ListN.{length, replicate}
 use Rattle.lane.specs.Floats.{whole, zero}
 use Rattle.lane.specs.Lane.{clampOf, pow10Of}
-use Rattle.parts.specs.Parts.{upto, upto-count, patch, length-patch}
+use Rattle.parts.specs.Parts.{upto, patch}
+use Rattle.parts.specs.Laws.{upto-count, length-patch}
 use Rattle.points.specs.Points.{clampOr, isBypass, defaultState}
 use Rattle.pole_zero.specs.declared.PoleZeroDesign.{PoleZeroDesign}
 use Rattle.pole_zero.specs.declared.Table.{Table}

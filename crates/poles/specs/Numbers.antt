@@ -9,7 +9,8 @@ use lib.Dec.{eqb, ltb}
 use lib.ListN.{getD, List·getD-append}
 use lib.Ieee.{Float, nan}
 use borrow.Author.Tests.{lt-ltb}
-use Rattle.parts.specs.Parts.{tab, upto-same, length-tab, tab-at}
+use Rattle.parts.specs.Parts.{tab}
+use Rattle.parts.specs.Laws.{upto-same, length-tab, tab-at}
 use Rattle.lane.specs.Floats.{zero, _⊗_}
 use Rattle.filter.specs.declared.Pitch.{Pitch}
 use Rattle.filter.specs.declared.Ratio.{Ratio}

@@ -12,7 +12,7 @@ use lib.ListN.{length}
 use types.Run.{OneOf}
 use borrow.Author.Tests.{lt-leb}
 use Rattle.lane.specs.Floats.{zero}
-use Rattle.parts.specs.Parts.{flat-lt, piece-fits}
+use Rattle.parts.specs.Laws.{flat-lt, piece-fits}
 use Rattle.lines.specs.Lines.{rateRefused, ringLen, lengths, isLength, isView, readOf, writeOf}
 use Rattle.lines.specs.View.{is-bad}
 use Rattle.lines.specs.Laws.{ring-len-good, view-good, write-bad}

@@ -9,7 +9,8 @@ use mathlib.Core.List.{List, [], _∷_, _++_, append-assoc, append-nil}
 use lib.Ieee.{Float, nan}
 use lib.ListN.{length, getD, set, length-set}
 use lib.Seq.{getD-set-same, getD-set-other}
-use Rattle.parts.specs.Parts.{upto, tab, piece, upto-keep, upto-count, upto-focus, tab-at, tab-same, flat-low, flat-high, flat-lt, piece-fits, length-piece, length-patch, piece-patch, piece-other}
+use Rattle.parts.specs.Parts.{upto, tab, piece}
+use Rattle.parts.specs.Laws.{upto-keep, upto-count, upto-focus, tab-at, tab-same, flat-low, flat-high, flat-lt, piece-fits, length-piece, length-patch, piece-patch, piece-other}
 use Rattle.voices.specs.Calls.{targetsWidth, recordWidth, Tick, Engine, Laws, Bank, Block, BlockRun, SlotRun, cursorAfter, slot, pitchIndex, audioIndex, steeringAt, tickOf, frameOf, framesOf, slotOf, blockOf}
 use Rattle.voices.specs.Feed.{PlainVoice, advance, ticked, frameAt}
 use Rattle.voices.specs.Accepted.{Lengths}

@@ -7,7 +7,8 @@ use native.Mathlib.Omega.{arith}
 use mathlib.Core.List.{List}
 use lib.Ieee.{Float}
 use lib.ListN.{length, replicate, length-append, length-replicate}
-use Rattle.parts.specs.Parts.{piece, upto-keep, upto-focus, flat-low, flat-high, flat-lt, piece-fits, length-piece, length-patch, piece-patch, piece-other}
+use Rattle.parts.specs.Parts.{piece}
+use Rattle.parts.specs.Laws.{upto-keep, upto-focus, flat-low, flat-high, flat-lt, piece-fits, length-piece, length-patch, piece-patch, piece-other}
 use Rattle.voices.specs.Calls.{targetsWidth, statesWidth, recordWidth, positiveZero, Engine, Bank, startRecord, startRing, slot, startSlot, startOf}
 use Rattle.voices.specs.Accepted.{Lengths}
 

@@ -11,7 +11,8 @@ use lib.Ieee.{Float}
 use lib.Dec.{eqb}
 use lib.ListN.{length}
 use borrow.Author.Tests.{eqb-true, eqb-false}
-use Rattle.parts.specs.Parts.{piece, upto-focus, piece-fits, length-patch, piece-patch, piece-other}
+use Rattle.parts.specs.Parts.{piece}
+use Rattle.parts.specs.Laws.{upto-focus, piece-fits, length-patch, piece-patch, piece-other}
 use Rattle.voices.specs.Calls.{targetsWidth, recordWidth, Check, fine, refused, Engine, Laws, Bank, Block, Call, callSet, callStart, callBlock, Run, cursorAfter, startRecord, slot, setOf, startOf, openOf, blockOf, openVerdict, verdict, accepted, perform, call, run}
 use Rattle.voices.specs.Feed.{eventSet, eventStart, frameCount, framesRendered, PlainVoice, started, fresh, advance, play, frameAt, events, feed, samplesOf}
 use Rattle.voices.specs.Accepted.{Lengths, SetAccepted, StartAccepted, BlockAccepted, open-accepted, set-accepted, start-accepted, block-accepted}

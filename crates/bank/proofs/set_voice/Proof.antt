@@ -5,7 +5,7 @@ use native.Mathlib.Omega.{arith}
 use denote.Ref.{now}
 use lib.ListN.{length}
 use lib.Seq.{paste}
-use Rattle.parts.specs.Parts.{patch-paste}
+use Rattle.parts.specs.Laws.{patch-paste}
 use Rattle.slots.specs.Engine.{targets-length}
 use Rattle.bank.proofs.set_voice.Statement.{statement}
 use Rattle.bank.proofs.set_voice.Tie as tie

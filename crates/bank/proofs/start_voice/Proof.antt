@@ -8,7 +8,8 @@ use native.Mathlib.Numerals.{add-one}
 use denote.Ref.{now}
 use lib.Ieee.{Float}
 use lib.ListN.{length, replicate}
-use Rattle.parts.specs.Parts.{upto, piece, patch, piece-fits}
+use Rattle.parts.specs.Parts.{upto, piece, patch}
+use Rattle.parts.specs.Laws.{piece-fits}
 use Rattle.voices.specs.Calls.{targetsWidth, statesWidth, recordWidth, positiveZero, Engine, startSlot, startOf}
 use Rattle.slots.specs.Frame.{targets-piece}
 use Rattle.checks.specs.Setup.{engine}

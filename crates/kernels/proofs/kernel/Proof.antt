@@ -6,7 +6,8 @@ use mathlib.Core.List.{List}
 use denote.Ref.{now}
 use borrow.Author.Tests.{ne-eqb}
 use lib.Ieee.{Float}
-use Rattle.parts.specs.Parts.{piece, patch-piece}
+use Rattle.parts.specs.Parts.{piece}
+use Rattle.parts.specs.Laws.{patch-piece}
 use Rattle.extended.specs.Extended.{Ticked}
 use Rattle.kernels.specs.Kernels.{kernelOf, onStates, KernelLeaves}
 use Rattle.kernels.specs.Keeping.{buzz-is, dj-is, diffuser-is, transistor-is, acid-is, clean-is, driven-is, comb-is, multimode-is, weights-are, band-is, k35-is, sections-step}

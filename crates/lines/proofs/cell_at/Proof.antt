@@ -6,7 +6,8 @@ use native.Mathlib.Omega.{arith}
 use denote.Ref.{now}
 use lib.Ieee.{nan}
 use lib.ListN.{getD}
-use Rattle.parts.specs.Parts.{piece, piece-get}
+use Rattle.parts.specs.Parts.{piece}
+use Rattle.parts.specs.Laws.{piece-get}
 use borrow.Author.Needs.{needs}
 use Rattle.lines.specs.View.{cell-is}
 use Rattle.lines.proofs.cell_at.Statement.{statement}

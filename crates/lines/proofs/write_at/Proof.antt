@@ -5,7 +5,7 @@ use native.Mathlib.Nat.{mod-lt}
 use native.Mathlib.Omega.{arith}
 use denote.Ref.{now}
 use lib.ListN.{length}
-use Rattle.parts.specs.Parts.{set-piece}
+use Rattle.parts.specs.Laws.{set-piece}
 use borrow.Author.Needs.{needs}
 use Rattle.lines.specs.Lines.{ringWrite, writeOf}
 use Rattle.lines.specs.View.{View, good}

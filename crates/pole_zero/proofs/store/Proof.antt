@@ -6,7 +6,7 @@ use Prim.Native.Nat.{_≤_, _*_, _-_}
 use mathlib.Core.Path.{_≡_, _∙_}
 use lib.Ieee.{nan}
 use lib.Seq.{paste, paste-zero, paste-suc}
-use Rattle.parts.specs.Parts.{patch-paste}
+use Rattle.parts.specs.Laws.{patch-paste}
 use Rattle.pole_zero.proofs.store.Statement.{statement}
 use Rattle.pole_zero.proofs.store.Tie as tie
 

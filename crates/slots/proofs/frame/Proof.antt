@@ -5,7 +5,7 @@ use native.Mathlib.Omega.{arith}
 use denote.Ref.{now}
 use lib.Ieee.{nan}
 use lib.ListN.{getD, length-set}
-use Rattle.parts.specs.Parts.{piece-fits}
+use Rattle.parts.specs.Laws.{piece-fits}
 use Rattle.lines.specs.Laws.{view-good}
 use Rattle.voices.specs.Calls.{cursorAfter}
 use Rattle.slots.specs.Slots.{blockAt, slotRun}

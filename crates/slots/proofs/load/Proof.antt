@@ -7,7 +7,7 @@ use denote.Ref.{now}
 use lib.Ieee.{nan}
 use lib.ListN.{length, length-set}
 use lib.Seq.{take-all}
-use Rattle.parts.specs.Parts.{loaded, loaded-length, loaded-take}
+use Rattle.parts.specs.Laws.{loaded, loaded-length, loaded-take}
 use Rattle.slots.proofs.load.Statement.{statement}
 use Rattle.slots.proofs.load.Tie as tie
 

@@ -1,6 +1,6 @@
 -- `place_at` meets its contract: a place in a row of the list is below its end.
 use native.Mathlib.Omega.{arith}
-use Rattle.parts.specs.Parts.{flat-lt}
+use Rattle.parts.specs.Laws.{flat-lt}
 use Rattle.slots.proofs.place_at.Statement.{statement}
 use Rattle.slots.proofs.place_at.Tie as tie
 

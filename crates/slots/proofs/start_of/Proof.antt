@@ -1,6 +1,6 @@
 -- `start_of` meets its contract: a piece ends within the list.
 use native.Mathlib.Omega.{arith}
-use Rattle.parts.specs.Parts.{piece-fits}
+use Rattle.parts.specs.Laws.{piece-fits}
 use Rattle.slots.proofs.start_of.Statement.{statement}
 use Rattle.slots.proofs.start_of.Tie as tie
 

@@ -6,7 +6,7 @@ use native.Mathlib.Numerals.{add-one}
 use denote.Ref.{now}
 use lib.Ieee.{nan}
 use lib.ListN.{length, length-set}
-use Rattle.parts.specs.Parts.{stored, stored-paste}
+use Rattle.parts.specs.Laws.{stored, stored-paste}
 use Rattle.slots.proofs.store.Statement.{statement}
 use Rattle.slots.proofs.store.Tie as tie
 

@@ -6,7 +6,7 @@ use native.Mathlib.Numerals.{add-one}
 use denote.Ref.{now}
 use lib.Ieee.{nan}
 use lib.ListN.{length, length-set, replicate, getD-replicate, length-replicate}
-use Rattle.parts.specs.Parts.{stored, stored-patch}
+use Rattle.parts.specs.Laws.{stored, stored-patch}
 use Rattle.voices.specs.Calls.{positiveZero}
 use Rattle.slots.proofs.zero_ring.Statement.{statement}
 use Rattle.slots.proofs.zero_ring.Tie as tie
