@@ -1,6 +1,7 @@
 #!/usr/bin/env bash
-# The test command. The layout; the toolchain's gate over every listed crate (proofs, must-fail edits, programs against stored
-# answers); then, where cargo is, the linked library: its Rust wrapper's tests, and vector files replayed bit for bit.
+# The test command. The layout; the definitions against the published Rust's text, where that is at hand; the toolchain's gate over every
+# listed crate (proofs, must-fail edits, programs against stored answers); then, where cargo is, the linked library: its Rust wrapper's
+# tests, and vector files replayed bit for bit.
 # The last line is 'N passed, M failed'.
 set -u
 cd "$(dirname "$0")" || exit 1
@@ -19,6 +20,13 @@ command -v rt >/dev/null || { failed=1 && echo "rt, the Rattle toolchain's comma
 
 count "layout (rt fmt --check)" rt fmt --check
 [ "$failed" -eq 0 ] || finish
+
+rust=../shared/docs/src/crates/dsp/src/filter
+if [ -d "$rust" ] && command -v python3 >/dev/null; then
+    count "definitions against the published Rust" compare/definitions.sh "$rust"
+else
+    echo "skipped, for want of the published Rust or of python3: the definitions against its text"
+fi
 
 log=$(mktemp)
 # more jobs than cores, since rt waits for a whole batch

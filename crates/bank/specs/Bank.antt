@@ -4,7 +4,8 @@ use Prim.Native.Nat.{ℕ}
 use mathlib.Core.List.{List, [], _∷_}
 use lib.Ieee.{Float}
 use Rattle.filter.specs.declared.VoiceParams.{VoiceParams}
-use Rattle.voices.specs.Calls.{Check, fine, refused, Bank, Block, callSet, callStart, callBlock, Answer, refusedCall, kept, rendered, Run, openOf, openVerdict, call}
+use Rattle.voices.specs.Calls.{Check, fine, refused, Bank, Block, callSet, callStart, callBlock}
+use Rattle.voices.specs.Calls.{Answer, refusedCall, kept, rendered, Run, openOf, openVerdict, call}
 use Rattle.checks.specs.declared.Setup.{Setup}
 use Rattle.checks.specs.Setup.{engine}
 use Rattle.checks.specs.Checks.{bankOf}
@@ -38,10 +39,10 @@ after r cur tg rs ds audio = record { bank = bankOf tg rs ds (cursorOf r cur); l
 -- ---- what each call promises
 
 -- set takes targets alone: whatever records and delay are, it does `call` with those targets and keeps them
-abbrev pub SetDoes : Setup → (cursor : ℕ) → (voice : ℕ) → VoiceParams → (targets : List Float) → CodeAnswer → (left : List Float) → Type 0
+abbrev pub SetDoes : Setup → (cursor voice : ℕ) → VoiceParams → (targets : List Float) → CodeAnswer → (targets' : List Float) → Type 0
 SetDoes s cur v p tg r tg' = (rs ds : List Float) → after r cur tg' rs ds [] ≡ call (engine s) (s .voices) (callSet v p) (before (bankOf tg rs ds cur))
 
-abbrev pub StartDoes : Setup → (cursor : ℕ) → (voice : ℕ) → (targets records delay : List Float) → CodeAnswer → (records' delay' : List Float) → Type 0
+abbrev pub StartDoes : Setup → (cursor voice : ℕ) (targets records delay : List Float) → CodeAnswer → (records' delay' : List Float) → Type 0
 StartDoes s cur v tg rs ds r rs' ds' = after r cur tg rs' ds' [] ≡ call (engine s) (s .voices) (callStart v) (before (bankOf tg rs ds cur))
 
 -- a refused block leaves the audio too

@@ -14,7 +14,8 @@ use Rattle.filter.specs.Voice.{defaultParams, targetsOf, morphTargetsOf, voiceT
 use Rattle.pole_zero.specs.declared.Table.{Table}
 use Rattle.parts.specs.Parts.{tab, piece, patch}
 use Rattle.slots.specs.Engine.{referenceRefused, setupCheckOf}
-use Rattle.voices.specs.Calls.{targetsWidth, recordWidth, fine, refused, check, _then_, Bank, Block, Call, callSet, callStart, callBlock, setOf, startSlot, startOf, openOf, openVerdict, verdict, opened}
+use Rattle.voices.specs.Calls.{targetsWidth, recordWidth, fine, refused, check, _then_, Bank, Block, Call, callSet, callStart, callBlock}
+use Rattle.voices.specs.Calls.{setOf, startSlot, startOf, openOf, openVerdict, verdict, opened}
 use Rattle.voices.specs.Feed.{Frame, eventSet, eventStart, eventFrame, feed}
 use Rattle.checks.specs.declared.Setup.{Setup}
 use Rattle.checks.specs.Setup.{engine}
@@ -52,6 +53,9 @@ frame1 : Frame
 frame1 = record { pitch = number 3; inputs = number 3 ∷ []; steering = some (number 3, nan) }
 
 -- the refused start and the other voice's set add nothing
-feed-computes : (t : Table) → feed (engine (setup t)) 2 1 calls (opened (engine (setup t)) 2 lists) ≡ eventSet defaultParams ∷ eventStart ∷ eventFrame frame0 ∷ eventFrame frame1 ∷ []
-unfolding setup lists setupCheckOf referenceRefused rateRefused ringLen nextPower check _then_ isNan lt round size mul toUnsigned block calls frame0 frame1 openOf startOf startSlot setOf piece patch nanKnob defaultParams voiceTargets targetsOf morphTargetsOf
+feed-computes : (t : Table)
+    → feed (engine (setup t)) 2 1 calls (opened (engine (setup t)) 2 lists)
+    ≡ eventSet defaultParams ∷ eventStart ∷ eventFrame frame0 ∷ eventFrame frame1 ∷ []
+unfolding setup lists setupCheckOf referenceRefused rateRefused ringLen nextPower check _then_ isNan lt round size mul toUnsigned
+    block calls frame0 frame1 openOf startOf startSlot setOf piece patch nanKnob defaultParams voiceTargets targetsOf morphTargetsOf
 feed-computes t = refl

@@ -1,18 +1,18 @@
 // The voice filter bank: open, set, start and block on lists that the caller lends.
 ghost use mathlib.Core.Path.{_≡_};
-ghost use Prim.Native.Nat.{ℕ, _*_, _<_};
+ghost use Prim.Native.Nat.{_*_, _<_};
 ghost use lib.ListN.{length};
-ghost use Rattle.slots.specs.Engine.{setupCheckOf};
 ghost use Rattle.filter.specs.Voice.{voiceTargets};
 ghost use Rattle.parts.specs.Parts.{patch};
-ghost use Rattle.voices.specs.Calls.{targetsWidth, fine, startOf, openOf};
-ghost use Rattle.voices.specs.Accepted.{Lengths};
-ghost use Rattle.checks.specs.Setup.{soloOf, engine};
+ghost use Rattle.voices.specs.Calls.{targetsWidth, openOf};
+ghost use Rattle.checks.specs.Setup.{engine};
 ghost use Rattle.checks.specs.Checks.{bankOf, blockFrom};
 ghost use Rattle.bank.specs.Bank.{SetDoes, StartDoes, OpenDoes, BlockDoes};
+ghost use Rattle.bank.specs.Contracts.{Ready, Started};
 use checks::Setup;
 use checks::Verdict;
 use filter::VoiceParams;
+use run::Structure;
 use slots::Prepared;
 
 // A refusal's number; of set and start the cursor that they were given; of block the new cursor and the frames rendered.
@@ -29,13 +29,14 @@ fn set_voice(targets: &mut [f32], voices: usize, voice: usize, p: VoiceParams)
 {
     let at = slots::start_of(voice, 10, voices, targets.len());
     let goals = filter::voice_targets(p);
-    slots::store(targets, at, &goals);
+    slots::copy(&goals, 0, targets, at, 10);
 }
 
 // Copies a voice's targets to its smoothed and morph numbers on every channel, and zeroes its states and rings.
 fn start_voice(setup: Setup, targets: &[f32], records: &mut [f32], delay: &mut [f32], voice: usize)
-    requires { ⌜ (setupCheckOf (soloOf setup) (setup .voices) ≡ fine) × (Lengths (engine setup) (setup .voices) (bankOf (now targets) (now records) (now delay) 0)) × (voice < setup .voices) ⌝ }
-    ensures { λ _. ⌜ ((cur : ℕ) → bankOf (now (targets .entry)) (now (records .exit)) (now (delay .exit)) cur ≡ startOf (engine setup) (setup .voices) voice (bankOf (now (targets .entry)) (now (records .entry)) (now (delay .entry)) cur)) ⌝ }
+    requires { ⌜ (Ready setup (bankOf (now targets) (now records) (now delay) 0)) × (voice < setup .voices) ⌝ }
+    ensures { λ _. ⌜ Started setup voice (now (targets .entry)) (now (records .entry)) (now (delay .entry))
+        (now (records .exit)) (now (delay .exit)) ⌝ }
 {
     let voices = setup.voices;
     let len = lines::ring_len(setup.rate);
@@ -52,8 +53,9 @@ fn start_voice(setup: Setup, targets: &[f32], records: &mut [f32], delay: &mut [
 
 // Sets every voice to the defaults and starts it.
 fn open_voices(setup: Setup, targets: &mut [f32], records: &mut [f32], delay: &mut [f32])
-    requires { ⌜ (setupCheckOf (soloOf setup) (setup .voices) ≡ fine) × (Lengths (engine setup) (setup .voices) (bankOf (now targets) (now records) (now delay) 0)) ⌝ }
-    ensures { λ _. ⌜ bankOf (now (targets .exit)) (now (records .exit)) (now (delay .exit)) 0 ≡ openOf (engine setup) (setup .voices) (bankOf (now (targets .entry)) (now (records .entry)) (now (delay .entry)) 0) ⌝ }
+    requires { ⌜ Ready setup (bankOf (now targets) (now records) (now delay) 0) ⌝ }
+    ensures { λ _. ⌜ bankOf (now (targets .exit)) (now (records .exit)) (now (delay .exit)) 0
+        ≡ openOf (engine setup) (setup .voices) (bankOf (now (targets .entry)) (now (records .entry)) (now (delay .entry)) 0) ⌝ }
 {
     let mut v: usize = 0;
     while v < setup.voices {
@@ -71,7 +73,8 @@ pub struct Opened {
 
 // Opens a bank: every voice at the defaults and started, cursor 0.
 pub fn open(setup: Setup, targets: &mut [f32], records: &mut [f32], delay: &mut [f32]) -> Opened
-    ensures { λ r. ⌜ OpenDoes setup (bankOf (now (targets .entry)) (now (records .entry)) (now (delay .entry)) 0) (r .answer) (r .setup) (now (targets .exit)) (now (records .exit)) (now (delay .exit)) ⌝ }
+    ensures { λ r. ⌜ OpenDoes setup (bankOf (now (targets .entry)) (now (records .entry)) (now (delay .entry)) 0)
+        (r .answer) (r .setup) (now (targets .exit)) (now (records .exit)) (now (delay .exit)) ⌝ }
 {
     let checked = checks::open_check(setup, targets, records, delay);
     if let Verdict::Refused(n) = checked {
@@ -108,7 +111,8 @@ pub fn start(
     delay: &mut [f32],
     voice: usize,
 ) -> Answer
-    ensures { λ r. ⌜ StartDoes setup cursor voice (now (targets .entry)) (now (records .entry)) (now (delay .entry)) r (now (records .exit)) (now (delay .exit)) ⌝ }
+    ensures { λ r. ⌜ StartDoes setup cursor voice (now (targets .entry)) (now (records .entry)) (now (delay .entry))
+        r (now (records .exit)) (now (delay .exit)) ⌝ }
 {
     let checked = checks::start_check(setup, targets, records, delay, voice);
     if let Verdict::Refused(n) = checked {
@@ -132,7 +136,10 @@ pub fn block(
     y: &[f32],
     audio: &mut [f32],
 ) -> Answer
-    ensures { λ r. ⌜ BlockDoes setup (blockFrom frames (now (pitch .entry)) steered (now (x .entry)) (now (y .entry)) (now (audio .entry))) (bankOf (now (targets .entry)) (now (records .entry)) (now (delay .entry)) cursor) r (now (records .exit)) (now (delay .exit)) (now (audio .exit)) ⌝ }
+    ensures { λ r. ⌜ BlockDoes setup
+        (blockFrom frames (now (pitch .entry)) steered (now (x .entry)) (now (y .entry)) (now (audio .entry)))
+        (bankOf (now (targets .entry)) (now (records .entry)) (now (delay .entry)) cursor)
+        r (now (records .exit)) (now (delay .exit)) (now (audio .exit)) ⌝ }
 {
     let checked = checks::block_check(
         setup,
@@ -153,20 +160,22 @@ pub fn block(
     let sections = table.sections;
     let roots = sqrt::openings();
     let prepared = Prepared {
-        code: setup.code,
+        m: Structure {
+            code: setup.code,
+            active: table.active,
+            gain: table.gain,
+            k: run::constants_of(setup.rate, setup.reference, setup.clean),
+        },
         rate: setup.rate,
         reference: setup.reference,
+        clean: setup.clean,
         voices: setup.voices,
         channels: setup.channels,
-        clean: setup.clean,
-        active: table.active,
-        gain: table.gain,
         cursor: cursor,
         frames: frames,
         steered: steered,
         slots: setup.channels * setup.voices,
         len: lines::ring_len(setup.rate),
-        k: run::constants_of(setup.rate, setup.reference, setup.clean),
     };
     slots::run_block(
         prepared,

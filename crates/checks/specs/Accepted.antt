@@ -1,3 +1,4 @@
+-- For the proofs: nothing here must be believed.
 -- What an accepted setup knows, and what a verdict of the code says of the check in the definition. Assumes nothing.
 use mathlib.Core.Path.{_≡_, sym, ap, _∙_}
 use mathlib.Core.Bool.{true}

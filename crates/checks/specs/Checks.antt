@@ -1,10 +1,14 @@
 -- What the code of the checks answers, and the lists that it measures, read as those of voices/specs/Calls (document 01, 'A bank is
 -- opened'). Definitions only.
+use mathlib.Core.Path.{_≡_}
 use Prim.Native.Nat.{ℕ}
 use mathlib.Core.Bool.{Bool}
 use mathlib.Core.List.{List}
 use lib.Ieee.{Float}
-use Rattle.voices.specs.Calls.{Check, fine, refused, Bank, Block}
+use Rattle.filter.specs.declared.VoiceParams.{VoiceParams}
+use Rattle.voices.specs.Calls.{Check, fine, refused, Bank, Block, Call, openVerdict, verdict}
+use Rattle.checks.specs.declared.Setup.{Setup}
+use Rattle.checks.specs.Setup.{engine}
 use Rattle.checks.specs.declared.Verdict.{Verdict}
 use Rattle.checks.specs.declared.Verdict.the-variants.{Fine, Refused as Refusal}
 
@@ -20,3 +24,11 @@ bankOf tg rs ds cur = record { targets = tg; records = rs; delay = ds; cursor = 
 
 abbrev pub blockFrom : (frames : ℕ) (pitch : List Float) (steered : Bool) (x y audio : List Float) → Block
 blockFrom f p st x y a = record { frames = f; pitch = p; steered = st; x = x; y = y; audio = a }
+
+-- ---- what the checks promise: the verdict on open, and on any other call
+
+abbrev pub IsOpenVerdict : Setup → Bank → Verdict → Type 0
+IsOpenVerdict s b r = checkOf r ≡ openVerdict (engine s) (s .voices) b
+
+abbrev pub IsVerdict : Setup → Call VoiceParams → Bank → Verdict → Type 0
+IsVerdict s x b r = checkOf r ≡ verdict (engine s) (s .voices) x b

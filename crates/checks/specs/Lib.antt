@@ -1,4 +1,4 @@
--- To be read: Setup, Checks. Accepted has what an accepted setup knows, for the proofs here and in bank.
+-- To be read: Setup, Checks.
 pub mod Setup
 pub mod Checks
 pub mod Accepted

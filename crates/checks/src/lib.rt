@@ -3,9 +3,9 @@ ghost use mathlib.Core.Path.{_≡_};
 ghost use mathlib.Core.Bool.{cond};
 ghost use mathlib.Core.List.{[]};
 ghost use Rattle.slots.specs.Engine.{referenceRefused, within, setupCheckOf};
-ghost use Rattle.voices.specs.Calls.{callSet, callStart, callBlock, openVerdict, verdict};
-ghost use Rattle.checks.specs.Setup.{soloOf, engine};
-ghost use Rattle.checks.specs.Checks.{checkOf, bankOf, blockFrom};
+ghost use Rattle.voices.specs.Calls.{callSet, callStart, callBlock};
+ghost use Rattle.checks.specs.Setup.{soloOf};
+ghost use Rattle.checks.specs.Checks.{checkOf, bankOf, blockFrom, IsOpenVerdict, IsVerdict};
 use filter::VoiceParams;
 use pole_zero::Table;
 
@@ -73,7 +73,7 @@ fn setup_check(setup: Setup) -> Verdict
 
 // The setup's refusals, then 6: the checks of open, which start and block make too.
 pub fn open_check(setup: Setup, targets: &[f32], records: &[f32], delay: &[f32]) -> Verdict
-    ensures { λ r. ⌜ checkOf r ≡ openVerdict (engine setup) (setup .voices) (bankOf (now (targets .entry)) (now (records .entry)) (now (delay .entry)) 0) ⌝ }
+    ensures { λ r. ⌜ IsOpenVerdict setup (bankOf (now (targets .entry)) (now (records .entry)) (now (delay .entry)) 0) r ⌝ }
 {
     let first = setup_check(setup);
     if let Verdict::Refused(n) = first {
@@ -94,7 +94,7 @@ pub fn open_check(setup: Setup, targets: &[f32], records: &[f32], delay: &[f32])
 
 // The setup's refusals, then 6 of targets alone, 7 and 8.
 pub fn set_check(setup: Setup, targets: &[f32], voice: usize, p: VoiceParams) -> Verdict
-    ensures { λ r. ⌜ checkOf r ≡ verdict (engine setup) (setup .voices) (callSet voice p) (bankOf (now (targets .entry)) [] [] 0) ⌝ }
+    ensures { λ r. ⌜ IsVerdict setup (callSet voice p) (bankOf (now (targets .entry)) [] [] 0) r ⌝ }
 {
     let first = setup_check(setup);
     if let Verdict::Refused(n) = first {
@@ -120,7 +120,7 @@ pub fn start_check(
     delay: &[f32],
     voice: usize,
 ) -> Verdict
-    ensures { λ r. ⌜ checkOf r ≡ verdict (engine setup) (setup .voices) (callStart voice) (bankOf (now (targets .entry)) (now (records .entry)) (now (delay .entry)) 0) ⌝ }
+    ensures { λ r. ⌜ IsVerdict setup (callStart voice) (bankOf (now (targets .entry)) (now (records .entry)) (now (delay .entry)) 0) r ⌝ }
 {
     let first = open_check(setup, targets, records, delay);
     if let Verdict::Refused(n) = first {
@@ -152,7 +152,9 @@ pub fn block_check(
     y: &[f32],
     audio: &[f32],
 ) -> Verdict
-    ensures { λ r. ⌜ checkOf r ≡ verdict (engine setup) (setup .voices) (callBlock (blockFrom frames (now (pitch .entry)) steered (now (x .entry)) (now (y .entry)) (now (audio .entry)))) (bankOf (now (targets .entry)) (now (records .entry)) (now (delay .entry)) 0) ⌝ }
+    ensures { λ r. ⌜ IsVerdict setup
+        (callBlock (blockFrom frames (now (pitch .entry)) steered (now (x .entry)) (now (y .entry)) (now (audio .entry))))
+        (bankOf (now (targets .entry)) (now (records .entry)) (now (delay .entry)) 0) r ⌝ }
 {
     let first = open_check(setup, targets, records, delay);
     if let Verdict::Refused(n) = first {

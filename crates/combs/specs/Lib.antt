@@ -1,1 +1,3 @@
+-- To be read: Combs.
 pub mod Combs
+pub mod Contracts

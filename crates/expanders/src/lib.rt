@@ -1,11 +1,14 @@
 // The expanders and the K35. Each has what follows from the pitch and the settings alone, in a struct of its name, and the step over
 // the input and the states. `t` is the root's table.
 ghost use mathlib.Core.Path.{_≡_};
-ghost use Rattle.expanders.specs.Expanders.{expanderCoefficients, expanderWith, expanderSolve, expanderTaps, bandMix, bandStep, tapWeight, multimodeWeights, multimodeMix, multimodeStep, k35Coefficients, k35With, k35Den, k35Low, k35High, k35LowOf, k35HighOf, k35States, k35Step};
+ghost use Rattle.extended.specs.Extended.{ticked};
+ghost use Rattle.expanders.specs.Expanders.{expanderCoefficients, expanderWith, expanderSolve, expanderTaps, stages, bandMix, bandStep};
+ghost use Rattle.expanders.specs.Expanders.{tapWeight, multimodeWeights, multimodeMix, multimodeStep};
+ghost use Rattle.expanders.specs.Expanders.{k35Coefficients, k35With, k35Den, k35Low, k35High, k35Feedback, k35Step};
 use extended::Settings;
 use filter::Pitch;
 use stages::Five;
-use stages::Four;
+use stages::Stages;
 
 // The ladder's feedback at resonance 1.
 const LADDER_MAX: f32 = 4.1;
@@ -18,8 +21,21 @@ pub struct Expander {
     pub gg: f32,
     pub h: f32,
     pub gg4: f32,
-    pub k: f32,
+    pub base: f32,
     pub inv_knee: f32,
+}
+
+// From what follows from the pitch alone.
+pub fn expander_with(gg: f32, h: f32, gg4: f32, p: Settings) -> Expander
+    ensures { λ r. ⌜ r ≡ expanderWith gg h gg4 p ⌝ }
+{
+    Expander {
+        gg: gg,
+        h: h,
+        gg4: gg4,
+        base: p.resonance * LADDER_MAX,
+        inv_knee: p.inv_knee,
+    }
 }
 
 pub fn expander_coefficients(pitch: Pitch, p: Settings) -> Expander
@@ -29,35 +45,16 @@ pub fn expander_coefficients(pitch: Pitch, p: Settings) -> Expander
     let g = filter::gain(pitch, reference);
     let gg = g / (1.0 + g);
     let gg2 = gg * gg;
-    Expander {
-        gg: gg,
-        h: 1.0 - gg,
-        gg4: gg2 * gg2,
-        k: p.resonance * LADDER_MAX,
-        inv_knee: p.inv_knee,
-    }
+    expander_with(gg, 1.0 - gg, gg2 * gg2, p)
 }
 
-// From what expander_coefficients gave at the pitch.
-pub fn expander_with(gg: f32, h: f32, gg4: f32, p: Settings) -> Expander
-    ensures { λ r. ⌜ r ≡ expanderWith gg h gg4 p ⌝ }
+fn expander_solve(c: Expander, state: &[f32; 20], k: f32, x: f32) -> Five
+    ensures { λ r. ⌜ r ≡ expanderSolve c (now (state .entry)) k x ⌝ }
 {
-    Expander {
-        gg: gg,
-        h: h,
-        gg4: gg4,
-        k: p.resonance * LADDER_MAX,
-        inv_knee: p.inv_knee,
-    }
-}
-
-fn expander_solve(c: Expander, s: Four, k: f32, x: f32) -> Five
-    ensures { λ r. ⌜ r ≡ expanderSolve c s k x ⌝ }
-{
-    let b0 = c.h * s.0;
-    let b1 = c.h * s.1;
-    let b2 = c.h * s.2;
-    let b3 = c.h * s.3;
+    let b0 = c.h * state[0];
+    let b1 = c.h * state[1];
+    let b2 = c.h * state[2];
+    let b3 = c.h * state[3];
     let sum = ((b0 * c.gg + b1) * c.gg + b2) * c.gg + b3;
     let input = x * (k * LADDER_COMPENSATION + 1.0);
     let y4 = (c.gg4 * input + sum) / (k * c.gg4 + 1.0);
@@ -65,15 +62,26 @@ fn expander_solve(c: Expander, s: Four, k: f32, x: f32) -> Five
     let t1 = c.gg * u + b0;
     let t2 = c.gg * t1 + b1;
     let t3 = c.gg * t2 + b2;
-    let t4 = c.gg * t3 + b3;
-    Five(u, t1, t2, t3, t4)
+    Five(u, t1, t2, t3, c.gg * t3 + b3)
 }
 
 fn expander_taps(c: Expander, state: &[f32; 20], x: f32, t: &[u8; 1024]) -> Five
     ensures { λ r. ⌜ r ≡ expanderTaps c (now (state .entry)) x ⌝ }
 {
-    let k = c.k * lane::saturation_gain(state[4], c.inv_knee, t);
-    expander_solve(c, stages::stages_of(state), k, x)
+    let k = c.base * lane::saturation_gain(state[4], c.inv_knee, t);
+    expander_solve(c, state, k, x)
+}
+
+// What a ladder's states follow from.
+fn stages(taps: Five) -> Stages
+    ensures { λ r. ⌜ r ≡ stages taps ⌝ }
+{
+    Stages {
+        y1: taps.1,
+        y2: taps.2,
+        y3: taps.3,
+        y4: taps.4,
+    }
 }
 
 fn band_mix(t: Five) -> f32
@@ -84,10 +92,10 @@ fn band_mix(t: Five) -> f32
 
 // The band-pass, 4 (y2 - 2 y3 + y4). State: 0 to 3 the stages, 4 the previous fourth-stage output.
 pub fn band_step(c: Expander, state: &mut [f32; 20], x: f32, t: &[u8; 1024]) -> f32
-    ensures { λ r. ⌜ (r ≡ bandStep c (now (state .entry)) x .out) × (now (state .exit) ≡ bandStep c (now (state .entry)) x .state) ⌝ }
+    ensures { λ r. ⌜ ticked r (now (state .exit)) ≡ bandStep c (now (state .entry)) x ⌝ }
 {
     let taps = expander_taps(c, state, x, t);
-    stages::store_ladder(state, Four(taps.1, taps.2, taps.3, taps.4));
+    stages::store_ladder(state, stages(taps));
     band_mix(taps)
 }
 
@@ -123,10 +131,10 @@ fn multimode_mix(w: Five, t: Five) -> f32
 }
 
 pub fn multimode_step(c: Expander, w: Five, state: &mut [f32; 20], x: f32, t: &[u8; 1024]) -> f32
-    ensures { λ r. ⌜ (r ≡ multimodeStep c w (now (state .entry)) x .out) × (now (state .exit) ≡ multimodeStep c w (now (state .entry)) x .state) ⌝ }
+    ensures { λ r. ⌜ ticked r (now (state .exit)) ≡ multimodeStep c w (now (state .entry)) x ⌝ }
 {
     let taps = expander_taps(c, state, x, t);
-    stages::store_ladder(state, Four(taps.1, taps.2, taps.3, taps.4));
+    stages::store_ladder(state, stages(taps));
     multimode_mix(w, taps)
 }
 
@@ -151,22 +159,7 @@ const K35_SWITCH_1: f32 = 0.55;
 // How far below the normal types' the K35's feedback knee sits.
 const K35_KNEE: f32 = 3.0;
 
-pub fn k35_coefficients(pitch: Pitch, p: Settings) -> K35
-    ensures { λ r. ⌜ r ≡ k35Coefficients pitch p ⌝ }
-{
-    let reference = p.ref_over_rate;
-    let g = filter::gain(pitch, reference);
-    let gg = g / (1.0 + g);
-    K35 {
-        gg: gg,
-        h: 1.0 - gg,
-        base: p.resonance * K35_MAX,
-        inv_knee: p.inv_knee * K35_KNEE,
-        w: extended::unit((p.character - K35_SWITCH_0) * (1.0 / (K35_SWITCH_1 - K35_SWITCH_0))),
-    }
-}
-
-// From what k35_coefficients gave at the pitch and the character.
+// From what follows from the pitch and the character alone.
 pub fn k35_with(gg: f32, h: f32, w: f32, p: Settings) -> K35
     ensures { λ r. ⌜ r ≡ k35With gg h w p ⌝ }
 {
@@ -177,6 +170,16 @@ pub fn k35_with(gg: f32, h: f32, w: f32, p: Settings) -> K35
         inv_knee: p.inv_knee * K35_KNEE,
         w: w,
     }
+}
+
+pub fn k35_coefficients(pitch: Pitch, p: Settings) -> K35
+    ensures { λ r. ⌜ r ≡ k35Coefficients pitch p ⌝ }
+{
+    let reference = p.ref_over_rate;
+    let g = filter::gain(pitch, reference);
+    let gg = g / (1.0 + g);
+    let w = extended::unit((p.character - K35_SWITCH_0) * (1.0 / (K35_SWITCH_1 - K35_SWITCH_0)));
+    k35_with(gg, 1.0 - gg, w, p)
 }
 
 fn k35_den(c: K35, k: f32) -> f32
@@ -194,11 +197,11 @@ pub struct Half35 {
     pub s3: f32,
 }
 
-fn k35_low(c: K35, s0: f32, s1: f32, s2: f32, k: f32, den: f32, x: f32) -> Half35
-    ensures { λ r. ⌜ r ≡ k35Low c s0 s1 s2 k den x ⌝ }
+fn k35_low(c: K35, s0: f32, s1: f32, s2: f32, k: f32, x: f32) -> Half35
+    ensures { λ r. ⌜ r ≡ k35Low c s0 s1 s2 k x ⌝ }
 {
     let y1 = c.gg * x + c.h * s0;
-    let y2 = (c.gg * y1 - k * c.gg * c.h * s2 + c.h * s1) * den;
+    let y2 = (c.gg * y1 - k * c.gg * c.h * s2 + c.h * s1) * k35_den(c, k);
     let hp3 = c.h * (y2 - s2);
     let lp3 = y2 - hp3;
     Half35 {
@@ -210,11 +213,11 @@ fn k35_low(c: K35, s0: f32, s1: f32, s2: f32, k: f32, den: f32, x: f32) -> Half3
     }
 }
 
-fn k35_high(c: K35, s0: f32, s1: f32, s2: f32, k: f32, den: f32, x: f32) -> Half35
-    ensures { λ r. ⌜ r ≡ k35High c s0 s1 s2 k den x ⌝ }
+fn k35_high(c: K35, s0: f32, s1: f32, s2: f32, k: f32, x: f32) -> Half35
+    ensures { λ r. ⌜ r ≡ k35High c s0 s1 s2 k x ⌝ }
 {
     let y1 = c.h * (x - s0);
-    let y2 = c.h * (y1 + k * c.h * s2 - s1) * den;
+    let y2 = c.h * (y1 + k * c.h * s2 - s1) * k35_den(c, k);
     let lp3 = c.gg * y2 + c.h * s2;
     let v = k * lp3 + y1;
     let lp1 = x - y1;
@@ -228,23 +231,33 @@ fn k35_high(c: K35, s0: f32, s1: f32, s2: f32, k: f32, den: f32, x: f32) -> Half
     }
 }
 
-fn k35_low_of(c: K35, state: &[f32; 20], x: f32, t: &[u8; 1024]) -> Half35
-    ensures { λ r. ⌜ r ≡ k35LowOf c (now (state .entry)) x ⌝ }
+// A half's feedback with the saturator, from its previous feedback.
+fn k35_feedback(c: K35, previous: f32, t: &[u8; 1024]) -> f32
+    ensures { λ r. ⌜ r ≡ k35Feedback c previous ⌝ }
 {
-    let k = c.base * lane::saturation_gain(state[3], c.inv_knee, t);
-    k35_low(c, state[0], state[1], state[2], k, k35_den(c, k), x)
+    c.base * lane::saturation_gain(previous, c.inv_knee, t)
 }
 
-fn k35_high_of(c: K35, state: &[f32; 20], x: f32, t: &[u8; 1024]) -> Half35
-    ensures { λ r. ⌜ r ≡ k35HighOf c (now (state .entry)) x ⌝ }
+// State: 0 to 2 the low-pass's stages, 3 its previous feedback; 4 to 6 the high-pass's, 7 its previous feedback.
+pub fn k35_step(c: K35, state: &mut [f32; 20], x: f32, t: &[u8; 1024]) -> f32
+    ensures { λ r. ⌜ ticked r (now (state .exit)) ≡ k35Step c (now (state .entry)) x ⌝ }
 {
-    let k = c.base * lane::saturation_gain(state[7], c.inv_knee, t);
-    k35_high(c, state[4], state[5], state[6], k, k35_den(c, k), x)
-}
-
-fn store_k35(state: &mut [f32; 20], l: Half35, h: Half35)
-    ensures { λ _. ⌜ now (state .exit) ≡ k35States (now (state .entry)) l h ⌝ }
-{
+    let l = k35_low(
+        c,
+        state[0],
+        state[1],
+        state[2],
+        k35_feedback(c, state[3], t),
+        x,
+    );
+    let h = k35_high(
+        c,
+        state[4],
+        state[5],
+        state[6],
+        k35_feedback(c, state[7], t),
+        x,
+    );
     state[0] = l.s0;
     state[1] = l.s1;
     state[2] = l.s2;
@@ -253,14 +266,5 @@ fn store_k35(state: &mut [f32; 20], l: Half35, h: Half35)
     state[5] = h.s1;
     state[6] = h.s2;
     state[7] = h.s3;
-}
-
-// State: 0 to 2 the low-pass's stages, 3 its previous feedback; 4 to 6 the high-pass's, 7 its previous feedback.
-pub fn k35_step(c: K35, state: &mut [f32; 20], x: f32, t: &[u8; 1024]) -> f32
-    ensures { λ r. ⌜ (r ≡ k35Step c (now (state .entry)) x .out) × (now (state .exit) ≡ k35Step c (now (state .entry)) x .state) ⌝ }
-{
-    let l = k35_low_of(c, state, x, t);
-    let h = k35_high_of(c, state, x, t);
-    store_k35(state, l, h);
     c.w * (h.out - l.out) + l.out
 }

@@ -16,9 +16,9 @@ pub record Ticked : Type 0 where
 abbrev pub ticked : Float → List Float → Ticked
 ticked out state = record { out = out; state = state }
 
--- unit: clamped to 0 .. 1, by max and min
-unfoldable pub unitOf : Float → Float
-unitOf x = minOf (maxOf x zero) one
+-- unit: held to 0 .. 1 by max and min, so a NaN becomes 0
+unfoldable pub unitOr0 : Float → Float
+unitOr0 x = minOf (maxOf x zero) one
 
 -- abs
 unfoldable pub absOf : Float → Float

@@ -1,7 +1,7 @@
 // What every extended kernel works with: one tick's settings and the shapers.
 ghost use mathlib.Core.Path.{_≡_};
 ghost use mathlib.Core.Bool.{Bool};
-ghost use Rattle.extended.specs.Extended.{unitOf, absOf, asymSlope, asymOf, smoothMark, linesMark};
+ghost use Rattle.extended.specs.Extended.{unitOr0, absOf, asymSlope, asymOf, smoothMark, linesMark};
 use filter::Ratio;
 
 // One sample's settings, smoothed. `ref_over_rate` is the reference over the rate for the gains,
@@ -38,7 +38,7 @@ pub fn asym(x: f32) -> f32
 
 // Clamped to 0 to 1.
 pub fn unit(x: f32) -> f32
-    ensures { λ r. ⌜ r ≡ unitOf x ⌝ }
+    ensures { λ r. ⌜ r ≡ unitOr0 x ⌝ }
 {
     lane::min(lane::max(x, 0.0), 1.0)
 }

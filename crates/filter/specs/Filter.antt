@@ -38,9 +38,9 @@ svfOf ic1 ic2 x g k =
     let a2 = g ⊗ a1 in
     let a3 = g ⊗ a2 in
     let v3 = x ⊖ ic2 in
-    let v1 = fma a1 ic1 (a2 ⊗ v3) in
-    let v2 = fma a2 ic1 (fma a3 v3 ic2) in
-    record { ic1 = v1 ⊕ v1 ⊖ ic1; ic2 = v2 ⊕ v2 ⊖ ic2; band = v1; low = v2 }
+    let band = fma a1 ic1 (a2 ⊗ v3) in
+    let low = fma a2 ic1 (fma a3 v3 ic2) in
+    record { ic1 = band ⊕ band ⊖ ic1; ic2 = low ⊕ low ⊖ ic2; band = band; low = low }
 
 -- SVF_OVERSHOOT
 abbrev pub svfOvershoot : Float
@@ -52,4 +52,4 @@ svfK k0 floor r = maxOf (fma r (neg k0 ⊗ (one ⊕ svfOvershoot)) k0) floor
 
 -- saturated_k: the law's damping pulled back towards k0 by the saturator's gain at the previous band output
 unfoldable pub saturatedK : Float → Float → Float → Float → Float
-saturatedK k0 k previous invKnee = fma (k ⊖ k0) (saturationGain previous invKnee) k0
+saturatedK k0 k previousBand invKnee = fma (k ⊖ k0) (saturationGain previousBand invKnee) k0

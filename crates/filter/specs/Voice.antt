@@ -1,6 +1,7 @@
 -- One voice's settings and the ten numbers that a bank smooths towards (mod.rs). Definitions only. Assumes nothing.
 use mathlib.Core.List.{List, [], _∷_, _++_}
 use mathlib.Core.Bool.{Bool, cond, _||_}
+use Prim.Native.Nat.{ℕ}
 use lib.Ieee.{Float, nan, inf, fin, isNan}
 use Rattle.lane.specs.Floats.{_⊗_, _⊘_, decimal, whole, zero, one}
 use Rattle.lane.specs.Lane.{maxOf, clampOf, exp2Of, pow10Of}
@@ -21,9 +22,9 @@ defaultParams =
       «morph_y» = zero;
     }
 
--- clamped to 0 .. 1
-unfoldable pub heldUnit : Float → Float
-heldUnit v = clampOf v zero one
+-- held to 0 .. 1 by Rust's clamp: a NaN stays NaN
+unfoldable pub unitOrNan : Float → Float
+unitOrNan v = clampOf v zero one
 
 -- DRIVE_DB = 24: the drive's gain into the clipper
 unfoldable pub driveGain : Float → Float
@@ -39,26 +40,28 @@ finiteOr0 nan = zero
 finiteOr0 (inf s) = zero
 finiteOr0 (fin s m e) = fin s m e
 
--- the level: a NaN or an infinity becomes 0, and then max(level, 0). Both are one step here, since max(0, 0) is 0
+-- the level: a NaN or an infinity becomes 0, any other number max(level, 0)
 unfoldable pub levelOf : Float → Float
-levelOf v = maxOf (finiteOr0 v) zero
+levelOf nan = zero
+levelOf (inf s) = zero
+levelOf (fin s m e) = maxOf (fin s m e) zero
 
--- targets_of: resonance, drive, drive gain, inverse knee, offset, mix, level, character
+-- targets_of, in the order of RES to CHARACTER
 unfoldable pub targetsOf : VoiceParams → List Float
 targetsOf p =
-    heldUnit (p .resonance)
-    ∷ heldUnit (p .drive)
-    ∷ driveGain (heldUnit (p .drive))
-    ∷ inverseKnee (heldUnit (p .saturation))
+    unitOrNan (p .resonance)
+    ∷ unitOrNan (p .drive)
+    ∷ driveGain (unitOrNan (p .drive))
+    ∷ inverseKnee (unitOrNan (p .saturation))
     ∷ finiteOr0 (p .«stereo_offset»)
-    ∷ heldUnit (p .mix)
+    ∷ unitOrNan (p .mix)
     ∷ levelOf (p .level)
-    ∷ heldUnit (p .character)
+    ∷ unitOrNan (p .character)
     ∷ []
 
 -- a NaN becomes 0, else clamped to 0 .. 1
 unfoldable pub morphOf : Float → Float
-morphOf v = cond (isNan v) zero (heldUnit v)
+morphOf v = cond (isNan v) zero (unitOrNan v)
 
 -- morph_targets_of
 unfoldable pub morphTargetsOf : VoiceParams → List Float
@@ -68,6 +71,37 @@ morphTargetsOf p = morphOf (p .«morph_x») ∷ morphOf (p .«morph_y») ∷ []
 unfoldable pub voiceTargets : VoiceParams → List Float
 unfolding targetsOf morphTargetsOf
 voiceTargets p = targetsOf p ++ morphTargetsOf p
+
+-- where each of the ten stands, in targets and in a record (mod.rs; MORPH_X and MORPH_Y of extended.rs stand after the eight)
+abbrev pub RES : ℕ
+RES = 0
+
+abbrev pub DRIVE : ℕ
+DRIVE = 1
+
+abbrev pub «DRIVE_GAIN» : ℕ
+«DRIVE_GAIN» = 2
+
+abbrev pub «INV_KNEE» : ℕ
+«INV_KNEE» = 3
+
+abbrev pub OFFSET : ℕ
+OFFSET = 4
+
+abbrev pub MIX : ℕ
+MIX = 5
+
+abbrev pub LEVEL : ℕ
+LEVEL = 6
+
+abbrev pub CHARACTER : ℕ
+CHARACTER = 7
+
+abbrev pub «MORPH_X» : ℕ
+«MORPH_X» = 8
+
+abbrev pub «MORPH_Y» : ℕ
+«MORPH_Y» = 9
 
 -- what refusal 8 names: a NaN resonance, drive, saturation, character or mix
 unfoldable pub nanKnob : VoiceParams → Bool

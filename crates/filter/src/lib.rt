@@ -3,7 +3,8 @@ ghost use mathlib.Core.Path.{_≡_};
 ghost use mathlib.Core.Bool.{Bool};
 ghost use lib.Ieee.{isNan};
 ghost use Rattle.filter.specs.Filter.{octavesOf, ratioAt, ratioOf, gainAt, gainOf, svfOf, svfK, saturatedK};
-ghost use Rattle.filter.specs.Voice.{defaultParams, heldUnit, driveGain, inverseKnee, finiteOr0, levelOf, morphOf, targetsOf, morphTargetsOf, voiceTargets, nanKnob};
+ghost use Rattle.filter.specs.Voice.{defaultParams, unitOrNan, driveGain, inverseKnee, finiteOr0, levelOf, morphOf, targetsOf, morphTargetsOf};
+ghost use Rattle.filter.specs.Voice.{voiceTargets, nanKnob};
 
 // A pitch counts semitones.
 pub struct Pitch(pub f32);
@@ -130,8 +131,8 @@ pub fn default_params() -> VoiceParams
     }
 }
 
-fn held_unit(v: f32) -> f32
-    ensures { λ r. ⌜ r ≡ heldUnit v ⌝ }
+fn unit_or_nan(v: f32) -> f32
+    ensures { λ r. ⌜ r ≡ unitOrNan v ⌝ }
 {
     lane::clamp(v, 0.0, 1.0)
 }
@@ -145,7 +146,7 @@ fn is_nan(v: f32) -> bool
 fn morph(v: f32) -> f32
     ensures { λ r. ⌜ r ≡ morphOf v ⌝ }
 {
-    if is_nan(v) { 0.0 } else { held_unit(v) }
+    if is_nan(v) { 0.0 } else { unit_or_nan(v) }
 }
 
 fn finite_or_0(v: f32) -> f32
@@ -182,16 +183,16 @@ fn inverse_knee(saturation: f32) -> f32
 pub fn targets_of(p: VoiceParams) -> [f32; 8]
     ensures { λ r. ⌜ r ≡ targetsOf p ⌝ }
 {
-    let drive = held_unit(p.drive);
+    let drive = unit_or_nan(p.drive);
     [
-        held_unit(p.resonance),
+        unit_or_nan(p.resonance),
         drive,
         drive_gain(drive),
-        inverse_knee(held_unit(p.saturation)),
+        inverse_knee(unit_or_nan(p.saturation)),
         finite_or_0(p.stereo_offset),
-        held_unit(p.mix),
+        unit_or_nan(p.mix),
         level(p.level),
-        held_unit(p.character),
+        unit_or_nan(p.character),
     ]
 }
 

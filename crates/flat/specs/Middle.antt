@@ -3,19 +3,19 @@
 use mathlib.Core.Path.{_≡_, refl}
 use mathlib.Core.Bool.{true, false}
 use mathlib.Core.List.{List}
-use lib.ListN.{getD, replicate}
-use lib.Ieee.{Float, nan, binary32, round, sum, add, sub, mul, div, neg, lt, eq, le, fits, isNan}
+use lib.ListN.{replicate}
+use lib.Ieee.{Float, binary32, round, sum, add, sub, mul, div, neg, lt, eq, le, fits, isNan}
 use lib.Ieee.Scale.{finite}
-use Rattle.lane.specs.Floats.{_⊖_, _⊘_, whole, zero, one}
+use Rattle.lane.specs.Floats.{_⊖_, _⊘_, _‼_, whole, zero, one}
 use Rattle.lane.specs.Lane.{maxOf, minOf, exp2Of, tanOf}
 use Rattle.filter.specs.declared.Pitch.{Pitch}
 use Rattle.filter.specs.declared.Ratio.{Ratio}
 use Rattle.filter.specs.Filter.{svfOf, gainOf, gainAt, ratioOf, ratioAt, octavesOf}
 use Rattle.extended.specs.declared.Settings.{Settings}
-use Rattle.extended.specs.Extended.{absOf, unitOf}
+use Rattle.extended.specs.Extended.{absOf, unitOr0}
 use Rattle.sweeps.specs.declared.DjSweep.{DjSweep}
-use Rattle.sweeps.specs.Sweeps.{neutralPitch, djDistance, djDepth, djPitch, djK, djCoefficients, djStep}
-use Rattle.flat.specs.Flat.{nearMiddle, isZero, djStage, djFiltered, flat}
+use Rattle.sweeps.specs.Sweeps.{neutralPitch, djDistance, djDepth, djPitch, djK, djWith, djCoefficients, djStage, djFiltered, djStep}
+use Rattle.flat.specs.Flat.{nearMiddle, isZero, flat}
 
 abbrev pub middle : Pitch
 middle = record { 0 = neutralPitch }
@@ -25,25 +25,26 @@ settings =
     let ratio : Ratio = record { 0 = whole 440 ⊘ whole 48000 } in
     record { resonance = zero; «inv_knee» = one; character = zero; x = zero; y = zero; «ref_over_rate» = ratio; «reference_ratio» = ratio }
 
-abbrev pub silence : List Float
-silence = replicate 20 zero
+abbrev pub zeroStates : List Float
+zeroStates = replicate 20 zero
 
 unfoldable pub coefficients : DjSweep
-unfolding djCoefficients djDistance djDepth djPitch djK gainOf gainAt ratioOf ratioAt octavesOf exp2Of tanOf unitOf absOf maxOf minOf isNan neg lt mul sub add sum div round
+unfolding djCoefficients djWith djDistance djDepth djPitch djK gainOf gainAt ratioOf ratioAt octavesOf exp2Of tanOf
+    unitOr0 absOf maxOf minOf isNan neg lt mul sub add sum div round
 coefficients = djCoefficients middle settings
 
 pub near : nearMiddle middle ≡ true
 unfolding nearMiddle djDistance absOf maxOf minOf isNan neg lt eq le mul sub add sum div round
 near = refl
 
-pub difference-finite : finite (djFiltered coefficients one (djStage coefficients silence one) ⊖ one) ≡ true
+pub difference-finite : finite (djFiltered coefficients one (djStage coefficients zeroStates one) ⊖ one) ≡ true
 unfolding coefficients djFiltered djStage svfOf
 difference-finite = refl
 
-pub state-moves : isZero (getD (djStep coefficients silence one .state) 0 nan) ≡ false
-unfolding coefficients isZero eq djStep svfOf
+pub state-moves : isZero (djStep coefficients zeroStates one .state ‼ 0) ≡ false
+unfolding coefficients isZero eq djStep svfOf djStage
 state-moves = refl
 
-pub sample-stays : eq (djStep (djCoefficients middle settings) silence one .out) one ≡ true
+pub sample-stays : eq (djStep (djCoefficients middle settings) zeroStates one .out) one ≡ true
 unfolding coefficients fits
-sample-stays = flat middle settings silence one near refl difference-finite
+sample-stays = flat middle settings zeroStates one near refl difference-finite

@@ -1,10 +1,12 @@
+-- For the proofs: nothing here must be believed.
 -- Zeros in binary32's arithmetic: a zero times a finite number is a zero, and a zero plus an f32 is that f32 in value. And what is at or
 -- below zero stays so: a number less one that it does not exceed, and its product with a positive number. Assumes nothing.
 use mathlib.Core.Path.{_≡_, refl, sym, ap, _∙_, subst}
 use mathlib.Core.Logic.{_⊎_, inl, inr}
 use mathlib.Core.Bool.{Bool, true, false, not, cond, _&&_, _||_, Bool·beq}
 use Prim.Native.Nat.{ℕ, zero, suc, _+_, _-_, _*_, _%_, _^_, _≤_, _<_}
-use native.Mathlib.Nat.{lt-irrefl, eq-zero-or-pos, zero-mul, mul-one, mul-comm, mul-assoc, mul-pos, mul-lt-mul-of-pos-right, lt-of-mul-lt-mul-right, lt-of-not-le, not-le-of-lt, le-of-suc-le-suc}
+use native.Mathlib.Nat.{lt-irrefl, eq-zero-or-pos, zero-mul, mul-one, mul-comm, mul-assoc, mul-pos, mul-lt-mul-of-pos-right, lt-of-mul-lt-mul-right}
+use native.Mathlib.Nat.{lt-of-not-le, not-le-of-lt, le-of-suc-le-suc}
 use native.Mathlib.Omega.{arith}
 use lib.IntN.{ℤ, pos, negsuc}
 use lib.Dec.{T, leb, ltb, eqb, ltb→lt, nltb→le, leb→le, eqb→eq, eqb·suc-zero, lit<}
@@ -49,7 +51,8 @@ zero-times (fin s m e) (fin t n d) z h =
     round-zero (unlike s t) (m * up e * (n * up d)) (down e * down d) (mul-pos (down-pos e) (down-pos d)) (zero-product m (up e) (n * up d) z)
 
 -- ---- an f32 rounds to itself
-fits-says : (s : Bool) (m : ℕ) (e : ℤ) → T (fits binary32 (fin s (suc m) e)) → (suc m < 2 ^ 24) × (down e ≤ 2 ^ 149) × (suc m * up e < 2 ^ 128 * down e)
+fits-says : (s : Bool) (m : ℕ) (e : ℤ) → T (fits binary32 (fin s (suc m) e))
+    → (suc m < 2 ^ 24) × (down e ≤ 2 ^ 149) × (suc m * up e < 2 ^ 128 * down e)
 unfolding fits
 fits-says s m e t =
     let a : Bool = eqb (suc m % 2) 1 in
@@ -126,14 +129,16 @@ same-value (fin u m e) t s n d h k =
     ])
 
 -- A is the zero's part of the sum, B the other's
-sum-zero : (t s : Bool) (n : ℕ) (d : ℤ) (A B c : ℕ) → 0 < c → A ≡ 0 → B ≡ n * up d * c → T (fits binary32 (fin s n d)) → T (eq (sum binary32 t A s B (c * down d)) (fin s n d))
+sum-zero : (t s : Bool) (n : ℕ) (d : ℤ) (A B c : ℕ) → 0 < c → A ≡ 0 → B ≡ n * up d * c → T (fits binary32 (fin s n d))
+    → T (eq (sum binary32 t A s B (c * down d)) (fin s n d))
 unfolding sum
 sum-zero t s n d A B c C z b f = go (Bool·beq t s) (ltb A B) (alike t s) (nltb→le A B)
   where
     has : (u : Bool) (k : ℕ) → k ≡ B → HasValue (round binary32 u k (c * down d)) u (n * up d) (down d)
     has u k e =
         subst (λ (x : Float). HasValue x u (n * up d) (down d))
-        (sym (round-same binary32 u k (c * down d) (n * up d) (down d) (mul-pos C (down-pos d)) (down-pos d) (ap (λ (x : ℕ). x * down d) (e ∙ b) ∙ mul-assoc (n * up d) c (down d))))
+        (sym (round-same binary32 u k (c * down d) (n * up d) (down d) (mul-pos C (down-pos d)) (down-pos d)
+        (ap (λ (x : ℕ). x * down d) (e ∙ b) ∙ mul-assoc (n * up d) c (down d))))
         (round-itself s u n d f)
 
     both : A + B ≡ B
@@ -146,7 +151,10 @@ sum-zero t s n d A B c C z b f = go (Bool·beq t s) (ltb A B) (alike t s) (nltb�
     neither h = (omega arith, omega arith)
 
     go : (a l : Bool) → (T a → t ≡ s) → (T (not l) → B ≤ A)
-        → T (eq (cond a (round binary32 t (A + B) (c * down d)) (cond l (round binary32 s (B - A) (c * down d)) (round binary32 (t && ltb B A) (A - B) (c * down d)))) (fin s n d))
+        → T (eq
+        (cond a (round binary32 t (A + B) (c * down d))
+        (cond l (round binary32 s (B - A) (c * down d)) (round binary32 (t && ltb B A) (A - B) (c * down d))))
+        (fin s n d))
     go true l h g = same-value (round binary32 t (A + B) (c * down d)) t s n d (has t (A + B) both) (inl (h tt))
     go false true h g = same-value (round binary32 s (B - A) (c * down d)) s s n d (has s (B - A) other) (inl refl)
     go false false h g =
@@ -160,7 +168,8 @@ zero-plus nan x z f h = absurd z
 zero-plus (inf s) x z f h = absurd z
 zero-plus (fin t m e) nan z f h = absurd h
 zero-plus (fin t m e) (inf s) z f h = absurd h
-zero-plus (fin t m e) (fin s n d) z f h = sum-zero t s n d (m * up e * down d) (n * up d * down e) (down e) (down-pos e) (zero-product m (up e) (down d) z) refl f
+zero-plus (fin t m e) (fin s n d) z f h =
+    sum-zero t s n d (m * up e * down d) (n * up d * down e) (down e) (down-pos e) (zero-product m (up e) (down d) z) refl f
 
 -- a difference is finite only where what it takes away is
 pub finite-right : (x y : Float) → T (finite (sub binary32 x y)) → T (finite y)
@@ -253,7 +262,8 @@ product nan n d h = absurd h
 product (inf true) n d h = rw eqb·suc-zero tt
 product (inf false) n d h = absurd h
 product (fin true m e) n d h = round-negative (m * up e * (suc n * up d)) (down e * down d)
-product (fin false m e) n d h = of-zero (mul binary32 (fin false m e) (fin false (suc n) d)) (zero-times (fin false m e) (fin false (suc n) d) (eqb→eq m 0 h) tt)
+product (fin false m e) n d h =
+    of-zero (mul binary32 (fin false m e) (fin false (suc n) d)) (zero-times (fin false m e) (fin false (suc n) d) (eqb→eq m 0 h) tt)
 
 -- the larger of such a number and zero, and the smaller of a zero and a number that is not negative
 pub max-zero : (x : Float) → T (nonPositive x) → Zero (maxOf x (fin false 0 (pos 0)))

@@ -22,7 +22,7 @@ use Rattle.checks.specs.Checks.{bankOf, blockFrom}
 use Rattle.bank.specs.declared.Answer.{Answer as CodeAnswer}
 use Rattle.bank.specs.declared.Answer.the-variants.{Refused, Kept, Rendered}
 use Rattle.bank.specs.Bank.{answerOf, cursorOf, after, openBy, OpenDoes, BlockDoes}
-use Rattle.impulses.specs.Impulse.{rateOf, setupOf, steadyPitch, silence, impulseOf, renderedOf, responseOf}
+use Rattle.impulses.specs.Impulse.{rateOf, impulseSetup, steadyPitch, silence, impulseOf, renderedOf, responseOf}
 use Rattle.impulses.specs.Cells.{ring-fits}
 use Rattle.impulses.proofs.Verdicts.{Accepted, rate-is}
 
@@ -77,18 +77,18 @@ block-audio s q b r rs ds audio ok d =
 
 -- the two calls on lists of zeros, at a setup of the program
 module _ (code rate : ℕ) (ds₀ pitch audio : List Float) (a : Accepted code rate (length audio)) (hd : length ds₀ ≡ ringLen (rateOf rate)) (hp : length pitch ≡ length audio) where
-  open-lengths : Lengths (engine (setupOf code rate)) 1 (bankOf (silence targetsWidth) (silence recordWidth) ds₀ 0)
-  unfolding setupOf
+  open-lengths : Lengths (engine (impulseSetup code rate)) 1 (bankOf (silence targetsWidth) (silence recordWidth) ds₀ 0)
+  unfolding impulseSetup
   open-lengths = record { targets = silence-length 10; records = silence-length 30; delay = omega arith }
 
   pub rendered-is : (tg rs ds rs' ds' left : List Float) (r r' : CodeAnswer) (s' : Setup)
       → length tg ≡ 10 → length rs ≡ 30 → length ds ≡ length ds₀
-      → OpenDoes (setupOf code rate) (bankOf (silence targetsWidth) (silence recordWidth) ds₀ 0) r s' tg rs ds
-      → BlockDoes (setupOf code rate) (blockFrom (length audio) pitch false [] [] audio) (bankOf tg rs ds 0) r' rs' ds' left
+      → OpenDoes (impulseSetup code rate) (bankOf (silence targetsWidth) (silence recordWidth) ds₀ 0) r s' tg rs ds
+      → BlockDoes (impulseSetup code rate) (blockFrom (length audio) pitch false [] [] audio) (bankOf tg rs ds 0) r' rs' ds' left
       → left ≡ renderedOf code rate ds₀ pitch audio
-  unfolding setupOf renderedOf
+  unfolding impulseSetup renderedOf
   rendered-is tg rs ds rs' ds' left r r' s' ht hr hs o b =
-      let s = setupOf code rate in
+      let s = impulseSetup code rate in
       let q = blockFrom (length audio) pitch false [] [] audio in
       let l : Lengths (engine s) 1 (bankOf tg rs ds 0) = record { targets = ht; records = hr; delay = omega arith } in
       let f : verdict (engine s) 1 (callBlock q) (bankOf tg rs ds 0) ≡ fine = block-fine s (a .setup) (bankOf tg rs ds 0) l q (a .some-frame) (a .most) refl (omega arith) refl refl (omega arith) in

@@ -14,7 +14,7 @@ use Rattle.voices.specs.Accepted.{check-fine, then-fine, and-true}
 use Rattle.checks.specs.Setup.{soloOf}
 use Rattle.impulses.specs.declared.Verdict.{Verdict}
 use Rattle.impulses.specs.declared.Verdict.the-variants.{Fine, Large, Refused}
-use Rattle.impulses.specs.Impulse.{rateOf, setupOf, afterSetup, checked, verdictOf}
+use Rattle.impulses.specs.Impulse.{rateOf, impulseSetup, afterSetup, checked, verdictOf}
 
 -- the code's cast is the nearest f32
 pub rate-is : (n : ℕ) → ofInt binary32 (pos n) ≡ rateOf n
@@ -31,11 +31,11 @@ tuning = refl
 
 module _ (code rate frames : ℕ) where
   pub rate-refused : rateRefused (rateOf rate) ≡ true → Refused 1 ≡ verdictOf code rate frames
-  unfolding verdictOf setupOf setupCheckOf check _then_
+  unfolding verdictOf impulseSetup setupCheckOf check _then_
   rate-refused h = rw h
 
-  setup-check : rateRefused (rateOf rate) ≡ false → setupCheckOf (soloOf (setupOf code rate)) 1 ≡ check (within 1 12 code) 5
-  unfolding setupOf setupCheckOf check _then_
+  setup-check : rateRefused (rateOf rate) ≡ false → setupCheckOf (soloOf (impulseSetup code rate)) 1 ≡ check (within 1 12 code) 5
+  unfolding impulseSetup setupCheckOf check _then_
   setup-check h = rw (h, tuning)
 
   coded : (t : Bool) → rateRefused (rateOf rate) ≡ false → within 1 12 code ≡ t → checked (check t 5) (afterSetup rate frames) ≡ verdictOf code rate frames
@@ -55,7 +55,7 @@ module _ (code rate frames : ℕ) where
   code-high h a b = coded false h (rw (le-leb 1 code a, lt-leb code 12 b))
 
   pub record Accepted : Type 0 where
-    pub setup : setupCheckOf (soloOf (setupOf code rate)) 1 ≡ fine
+    pub setup : setupCheckOf (soloOf (impulseSetup code rate)) 1 ≡ fine
     pub rate-fine : rateRefused (rateOf rate) ≡ false
     pub small : rate ≤ 131015
     pub some-frame : 1 ≤ frames
@@ -71,9 +71,9 @@ after-fine false true e = (refl, refl)
 after-fine false false e = ((cc), (cc))
 
 pub accepted : (code rate frames : ℕ) → verdictOf code rate frames ≡ Fine → Accepted code rate frames
-unfolding verdictOf afterSetup setupOf setupCheckOf
+unfolding verdictOf afterSetup impulseSetup setupCheckOf
 accepted code rate frames e =
-    let a = checked-fine (setupCheckOf (soloOf (setupOf code rate)) 1) (afterSetup rate frames) e in
+    let a = checked-fine (setupCheckOf (soloOf (impulseSetup code rate)) 1) (afterSetup rate frames) e in
     let b = after-fine (ltb 131015 rate) (leb 1 frames && leb frames 4096) (a .1) in
     let f = and-true (leb 1 frames) (leb frames 4096) (b .1) in
     record {

@@ -2,7 +2,7 @@
 use mathlib.Core.Path.{_≡_, refl}
 use mathlib.Core.List.{List, [], _∷_, _++_}
 use Prim.Native.Nat.{ℕ}
-use Rattle.text.specs.Text.{before, firstOf, wordAt, lineEnd, bytesOf, digitOf, numberFrom, decimalOf}
+use Rattle.text.specs.Text.{countBefore, firstOf, wordAt, lineEnd, bytesOf, digitOf, numberFrom, decimalOf}
 use Rattle.impulses.specs.declared.Request.the-variants.{Line, Asked}
 use Rattle.impulses.specs.Impulse.{shortDecimal, asked, lineRequest, requestOf}
 
@@ -27,7 +27,7 @@ record Requests : Type 0 where
   empty : requestOf [] ≡ Line
 
 requests : Requests
-unfolding start requestOf lineRequest asked shortDecimal wordAt lineEnd firstOf before bytesOf decimalOf numberFrom digitOf
+unfolding start requestOf lineRequest asked shortDecimal wordAt lineEnd firstOf countBefore bytesOf decimalOf numberFrom digitOf
 requests = record {
   example = refl;
   later-bytes = refl;

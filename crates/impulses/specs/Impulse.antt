@@ -1,6 +1,7 @@
 -- Impulse (document 01, 'Checked figures'): which request a line makes, what is answered, and the text printed, as lists of bytes. 32 is the
 -- blank, 10 the newline. Definitions only. Assumes nothing.
-use Prim.Native.Nat.{ℕ, _+_, _-_}
+use mathlib.Core.Path.{_≡_}
+use Prim.Native.Nat.{ℕ, _+_, _-_, _≤_}
 use mathlib.Core.Bool.{false, cond, _&&_}
 use mathlib.Core.List.{List, [], _∷_, _++_}
 use lib.Dec.{ltb, leb, eqb}
@@ -17,7 +18,7 @@ use Rattle.checks.specs.Checks.{bankOf, blockFrom}
 use Rattle.text.specs.declared.Span.{Span}
 use Rattle.text.specs.declared.Number.{Number}
 use Rattle.text.specs.declared.Number.the-variants.{Value as Number·Value, Refused as Number·Refused}
-use Rattle.text.specs.Text.{wordAt, lineEnd, bytesOf, decimalOf, bitsOf, decimalText, hexText}
+use Rattle.text.specs.Text.{wordAt, lineEnd, bytesOf, decimalOf, bitsOf, buffer, puts, decimalText, hexText}
 use Rattle.impulses.specs.declared.Decimal.{Decimal}
 use Rattle.impulses.specs.declared.Decimal.the-variants.{Value, Malformed}
 use Rattle.impulses.specs.declared.Request.{Request}
@@ -62,8 +63,8 @@ requestOf s = lineRequest (take (lineEnd s 0) s)
 abbrev pub rateOf : ℕ → Float
 rateOf rate = whole rate
 
-unfoldable pub setupOf : (code rate : ℕ) → Setup
-setupOf code rate = record {
+unfoldable pub impulseSetup : (code rate : ℕ) → Setup
+impulseSetup code rate = record {
   code = code;
   rate = rateOf rate;
   reference = whole 440;
@@ -90,7 +91,7 @@ checked fine v = v
 checked (refused k) v = Refused k
 
 unfoldable pub verdictOf : (code rate frames : ℕ) → Verdict
-verdictOf code rate frames = checked (setupCheckOf (soloOf (setupOf code rate)) 1) (afterSetup rate frames)
+verdictOf code rate frames = checked (setupCheckOf (soloOf (impulseSetup code rate)) 1) (afterSetup rate frames)
 
 -- ---- "feeds pitch 69 and audio 1, 0, 0, .. unsteered, in one block"
 
@@ -106,8 +107,9 @@ impulseOf frames = one ∷ silence (frames - 1)
 -- the audio that a bank of one voice leaves, opened on zeroed lists with the given delay
 unfoldable pub renderedOf : (code rate : ℕ) (delay pitch audio : List Float) → List Float
 renderedOf code rate delay pitch audio =
-    let s = setupOf code rate in
-    blockOf (engine s) 1 (blockFrom (length audio) pitch false [] [] audio) (openOf (engine s) 1 (bankOf (silence targetsWidth) (silence recordWidth) delay 0)) .audio
+    let s = impulseSetup code rate in
+    let opened = openOf (engine s) 1 (bankOf (silence targetsWidth) (silence recordWidth) delay 0) in
+    blockOf (engine s) 1 (blockFrom (length audio) pitch false [] [] audio) opened .audio
 
 unfoldable pub responseOf : (code rate frames : ℕ) → List Float
 responseOf code rate frames = renderedOf code rate (silence (ringLen (rateOf rate))) (steadyPitch frames) (impulseOf frames)
@@ -146,3 +148,8 @@ answerText (Asked code rate frames) = answered (verdictOf code rate frames) (res
 -- the whole output of an input
 unfoldable pub impulseText : List ℕ → List ℕ
 impulseText s = answerText (requestOf s)
+
+-- What `put_impulse` promises: `after` is `before` with the input's output written at its start, and r, where that output ends, is within it.
+-- Of an output that is longer, the bytes that have no room are left out.
+abbrev pub Prints : (input before after : List ℕ) (r : ℕ) → Type 0
+Prints input before after r = (buffer after r ≡ puts (impulseText input) (buffer before 0)) × (r ≤ length after)

@@ -10,7 +10,7 @@ use lib.ListN.{length, take, length-take}
 use lib.Seq.{take-take}
 use borrow.Author.Tests.{leb-true, leb-false, ne-eqb}
 use Rattle.text.specs.declared.Span.{Span}
-use Rattle.text.specs.Text.{count, before, firstOf, wordAt, lineEnd}
+use Rattle.text.specs.Text.{count, countBefore, firstOf, wordAt, lineEnd}
 use Rattle.impulses.specs.declared.Decimal.{Decimal}
 use Rattle.impulses.specs.declared.Decimal.the-variants.{Value, Malformed}
 use Rattle.impulses.specs.declared.Request.the-variants.{Line}
@@ -77,43 +77,43 @@ module _ (a b : ℕ) where
   short-step true p q n f h = refl
   short-step false p q n f h = ap suc (f (omega arith))
 
-  before-short : (n : ℕ) (s : List ℕ) → before a b s ≤ n → before a b (take n s) ≡ before a b s
-  unfolding before
+  before-short : (n : ℕ) (s : List ℕ) → countBefore a b s ≤ n → countBefore a b (take n s) ≡ countBefore a b s
+  unfolding countBefore
   before-short zero s h = omega arith
   before-short (suc n) [] h = refl
-  before-short (suc n) (x ∷ s) h = short-step (eqb x a || eqb x b) (before a b (take n s)) (before a b s) n (before-short n s) h
+  before-short (suc n) (x ∷ s) h = short-step (eqb x a || eqb x b) (countBefore a b (take n s)) (countBefore a b s) n (before-short n s) h
 
   long-step : (t : Bool) (p q n : ℕ) → (n ≤ q → p ≡ n) → suc n ≤ count t q → count t p ≡ suc n
   long-step true p q n f h = absurd (omega arith)
   long-step false p q n f h = ap suc (f (omega arith))
 
-  before-long : (n : ℕ) (s : List ℕ) → n ≤ before a b s → before a b (take n s) ≡ n
-  unfolding before
+  before-long : (n : ℕ) (s : List ℕ) → n ≤ countBefore a b s → countBefore a b (take n s) ≡ n
+  unfolding countBefore
   before-long zero s h = refl
   before-long (suc n) [] h = absurd (omega arith)
-  before-long (suc n) (x ∷ s) h = long-step (eqb x a || eqb x b) (before a b (take n s)) (before a b s) n (before-long n s) h
+  before-long (suc n) (x ∷ s) h = long-step (eqb x a || eqb x b) (countBefore a b (take n s)) (countBefore a b s) n (before-long n s) h
 
   within-step : (t : Bool) (p n : ℕ) → p ≤ n → count t p ≤ suc n
   within-step true p n h = omega arith
   within-step false p n h = omega arith
 
-  pub before-within : (s : List ℕ) → before a b s ≤ length s
-  unfolding before
+  pub before-within : (s : List ℕ) → countBefore a b s ≤ length s
+  unfolding countBefore
   before-within [] = omega arith
-  before-within (x ∷ s) = within-step (eqb x a || eqb x b) (before a b s) (length s) (before-within s)
+  before-within (x ∷ s) = within-step (eqb x a || eqb x b) (countBefore a b s) (length s) (before-within s)
 
 module _ (n : ℕ) (s : List ℕ) (h : 30 ≤ n) where
-  decided : (t : Bool) → leb (before 10 10 s) n ≡ t → requestOf (take n s) ≡ requestOf s
+  decided : (t : Bool) → leb (countBefore 10 10 s) n ≡ t → requestOf (take n s) ≡ requestOf s
   unfolding requestOf lineEnd firstOf
   decided true e =
-      let m : before 10 10 s ≤ n = leb-true _ n e in
-      rw (before-short 10 10 n s m, take-take (0 + before 10 10 s) n s (omega arith))
+      let m : countBefore 10 10 s ≤ n = leb-true _ n e in
+      rw (before-short 10 10 n s m, take-take (0 + countBefore 10 10 s) n s (omega arith))
   decided false e =
-      let m : n < before 10 10 s = leb-false _ n e in
-      let f : before 10 10 (take n s) ≡ n = before-long 10 10 n s (omega arith) in
+      let m : n < countBefore 10 10 s = leb-false _ n e in
+      let f : countBefore 10 10 (take n s) ≡ n = before-long 10 10 n s (omega arith) in
       let p : 30 ≤ length (take (0 + n) (take n s)) = simp length-take (omega (arith, before-within 10 10 s)) in
-      let q : 30 ≤ length (take (0 + before 10 10 s) s) = simp length-take (omega (arith, before-within 10 10 s)) in
+      let q : 30 ≤ length (take (0 + countBefore 10 10 s) s) = simp length-take (omega (arith, before-within 10 10 s)) in
       rw f (long-line _ p ∙ sym (long-line _ q))
 
 pub prefix-decides : PrefixDecides
-prefix-decides n s h = decided n s h (leb (before 10 10 s) n) refl
+prefix-decides n s h = decided n s h (leb (countBefore 10 10 s) n) refl

@@ -1,13 +1,15 @@
 // Impulse on slices (document 01, 'Checked figures'): the line that it reads, its verdict, the voice's response and the text that it prints.
 ghost use mathlib.Core.Path.{_≡_};
-ghost use Prim.Native.Nat.{_-_, _≤_};
+ghost use Prim.Native.Nat.{_-_};
 ghost use lib.ListN.{length};
 ghost use Rattle.text.specs.Text.{buffer, puts};
 ghost use Rattle.voices.specs.Calls.{targetsWidth, recordWidth, mostFrames};
 ghost use Rattle.impulses.specs.declared.Verdict.the-variants.{Fine};
 ghost use Rattle.impulses.specs.declared.Request.the-variants.{Asked};
-ghost use Rattle.lines.specs.Lines.{ringLen};
-ghost use Rattle.impulses.specs.Impulse.{shortDecimal, asked, lineRequest, requestOf, rateOf, setupOf, cells, afterSetup, verdictOf, sampleText, samplesText, lineText, largeText, refusedText, steadyPitch, silence, impulseOf, renderedOf, responseOf, answerText, impulseText};
+ghost use Rattle.impulses.specs.Asks.{Renderable};
+ghost use Rattle.impulses.specs.Impulse.{shortDecimal, asked, lineRequest, requestOf, impulseSetup, cells, afterSetup, verdictOf};
+ghost use Rattle.impulses.specs.Impulse.{sampleText, samplesText, lineText, largeText, refusedText, steadyPitch, silence, impulseOf};
+ghost use Rattle.impulses.specs.Impulse.{renderedOf, responseOf, answerText, Prints};
 use checks::Setup;
 use text::Number;
 use text::Span;
@@ -105,7 +107,7 @@ pub fn request_of(input: &[u8]) -> Request
 
 // One mono voice, reference 440, not clean, all-bypass table.
 fn setup_of(code: u32, rate: u32) -> Setup
-    ensures { λ r. ⌜ r ≡ setupOf code rate ⌝ }
+    ensures { λ r. ⌜ r ≡ impulseSetup code rate ⌝ }
 {
     Setup {
         code: code,
@@ -230,7 +232,7 @@ fn steady_pitch() -> [f32; 4096]
 
 // Opens the voice on lists of zeros with the lent delay, and renders the audio in place.
 fn render(code: u32, rate: u32, delay: &mut [f32], pitch: &[f32], audio: &mut [f32])
-    requires { ⌜ (verdictOf code rate (length (now audio)) ≡ Fine) × (length (now delay) ≡ ringLen (rateOf rate)) × (length (now pitch) ≡ length (now audio)) ⌝ }
+    requires { ⌜ Renderable code rate (now delay) (now pitch) (now audio) ⌝ }
     ensures { λ _. ⌜ now (audio .exit) ≡ renderedOf code rate (now (delay .entry)) (now (pitch .entry)) (now (audio .entry)) ⌝ }
 {
     let setup = setup_of(code, rate);
@@ -286,7 +288,7 @@ fn put_answer(out: &mut [u8], at: usize, code: u32, rate: u32, frames: usize) ->
 
 // Writes what the program prints for an input at the start of `out`, and answers its length. What has no room is left out.
 pub fn put_impulse(out: &mut [u8], input: &[u8]) -> usize
-    ensures { λ r. ⌜ (buffer (now (out .exit)) r ≡ puts (impulseText (now (input .entry))) (buffer (now (out .entry)) 0)) × (r ≤ length (now (out .exit))) ⌝ }
+    ensures { λ r. ⌜ Prints (now (input .entry)) (now (out .entry)) (now (out .exit)) r ⌝ }
 {
     match request_of(input) {
         Request::Line => put_line(out, 0),

@@ -1,17 +1,17 @@
 -- The structure's kernel, chosen by its code (document 01, A bank is opened: the table of structure codes).
 -- Definitions only. Assumes nothing.
-use mathlib.Core.Path.{_≡_}
 use Prim.Native.Nat.{ℕ}
 use mathlib.Core.Bool.{cond}
 use mathlib.Core.List.{List}
 use lib.Dec.{eqb}
 use lib.Ieee.{Float}
-use Rattle.parts.specs.Parts.{patch}
 use Rattle.filter.specs.declared.Pitch.{Pitch}
 use Rattle.extended.specs.declared.Settings.{Settings}
 use Rattle.extended.specs.Extended.{Ticked}
+use Rattle.pole_zero.specs.declared.Table.{Table}
 use Rattle.sweeps.specs.Sweeps.{buzzCoefficients, buzzStep, djCoefficients, djStep, diffuserCoefficients, diffuserStep}
-use Rattle.ladders.specs.Ladders.{transistorCoefficients, transistorStep, drivenCoefficients, drivenStep, acidCoefficients, acidStep, cleanCoefficients, cleanStep}
+use Rattle.ladders.specs.Ladders.{transistorCoefficients, transistorStep, drivenCoefficients, drivenStep}
+use Rattle.ladders.specs.Ladders.{acidCoefficients, acidStep, cleanLadderCoefficients, cleanLadderStep}
 use Rattle.expanders.specs.Expanders.{expanderCoefficients, bandStep, multimodeWeights, multimodeStep, k35Coefficients, k35Step}
 use Rattle.poles.specs.Poles.{poleCoefficients, poleStep}
 use Rattle.combs.specs.Combs.{Combed, combCoefficients, combStep}
@@ -32,24 +32,18 @@ onRing state t = record { out = t .out; state = state; ring = t .ring }
 -- 1 BuzzMorph, 2 DjSweep, 3 Diffuser, 4 TransistorLadder (DRIVEN false), 5 DiodeLadder (CLEAN false), 6 DiodeLadder (true),
 -- 7 TransistorLadder (true), 8 PoleZero, 9 Comb2, 10 Expander (BAND false), 11 Expander (true), 12 K35. No other code passes
 -- refusal 5; here one would leave everything as it is.
-unfoldable pub kernelOf : (code : ℕ) (sections : List Float) (active : ℕ) (gain : Float) (len cursor : ℕ) → Pitch → Settings → (state ring : List Float) (x : Float) → Kernel
-kernelOf code sections active gain len cursor pitch p state ring x =
+unfoldable pub kernelOf : (code : ℕ) → Table → (len cursor : ℕ) → Pitch → Settings → (state ring : List Float) (x : Float) → Kernel
+kernelOf code table len cursor pitch p state ring x =
     cond (eqb code 1) (onStates ring (buzzStep (buzzCoefficients pitch p) state x))
     (cond (eqb code 2) (onStates ring (djStep (djCoefficients pitch p) state x))
     (cond (eqb code 3) (onStates ring (diffuserStep (diffuserCoefficients pitch p) state x))
     (cond (eqb code 4) (onStates ring (transistorStep (transistorCoefficients pitch p) state x))
     (cond (eqb code 5) (onStates ring (acidStep (acidCoefficients pitch p) state x))
-    (cond (eqb code 6) (onStates ring (cleanStep (cleanCoefficients pitch p) state x))
+    (cond (eqb code 6) (onStates ring (cleanLadderStep (cleanLadderCoefficients pitch p) state x))
     (cond (eqb code 7) (onStates ring (drivenStep (drivenCoefficients pitch p) state x))
-    (cond (eqb code 8) (onStates ring (poleStep (poleCoefficients sections pitch p) active gain state x))
+    (cond (eqb code 8) (onStates ring (poleStep (poleCoefficients (table .sections) pitch p) (table .active) (table .gain) state x))
     (cond (eqb code 9) (onRing state (combStep (combCoefficients pitch p) len cursor ring x))
     (cond (eqb code 10) (onStates ring (multimodeStep (expanderCoefficients pitch p) (multimodeWeights (p .character)) state x))
     (cond (eqb code 11) (onStates ring (bandStep (expanderCoefficients pitch p) state x))
     (cond (eqb code 12) (onStates ring (k35Step (k35Coefficients pitch p) state x))
     (record { out = x; state = state; ring = ring }))))))))))))
-
--- what a kernel t leaves: its sample, its states, and its slot's ring in the lent delay list, every other cell as it was
-pub record KernelLeaves (len slot : ℕ) (before : List Float) (t : Kernel) (out : Float) (state delay : List Float) : Type 0 where
-  pub sample : out ≡ t .out
-  pub states : state ≡ t .state
-  pub cells : delay ≡ patch len slot (t .ring) before

@@ -1,3 +1,4 @@
+-- For the proofs: nothing here must be believed.
 -- A kernel keeps its states' number and its ring's length, whatever the structure. Assumes nothing.
 use mathlib.Core.Path.{_≡_, refl}
 use Prim.Native.Nat.{ℕ, min}
@@ -5,10 +6,12 @@ use mathlib.Core.Bool.{Bool, true, false, cond}
 use mathlib.Core.List.{List}
 use lib.Dec.{eqb}
 use lib.ListN.{length, length-set}
+use lib.Seq.{length-sets}
 use lib.Ieee.{Float}
 use Rattle.parts.specs.Laws.{upto-keep}
 use Rattle.lane.specs.Floats.{zero}
 use Rattle.lines.specs.Lines.{ringWrite}
+use Rattle.pole_zero.specs.declared.Table.{Table}
 use Rattle.filter.specs.declared.Pitch.{Pitch}
 use Rattle.extended.specs.declared.Settings.{Settings}
 use Rattle.extended.specs.Extended.{Ticked}
@@ -17,7 +20,7 @@ use Rattle.sweeps.specs.declared.DjSweep.{DjSweep}
 use Rattle.sweeps.specs.declared.Diffuser.{Diffuser}
 use Rattle.sweeps.specs.declared.Diffused.{Diffused}
 use Rattle.sweeps.specs.Sweeps.{buzzCoefficients, buzzStep, djCoefficients, djStep, diffuseStage, diffuserCoefficients, diffuserStep}
-use Rattle.stages.specs.declared.Four.{Four}
+use Rattle.stages.specs.declared.Stages.{Stages}
 use Rattle.stages.specs.declared.Five.{Five}
 use Rattle.ladders.specs.declared.TransistorLadder.{TransistorLadder}
 use Rattle.ladders.specs.declared.DrivenLadder.{DrivenLadder}
@@ -25,8 +28,9 @@ use Rattle.ladders.specs.declared.DiodeLadder.{DiodeLadder}
 use Rattle.expanders.specs.declared.Expander.{Expander}
 use Rattle.expanders.specs.declared.K35.{K35}
 use Rattle.stages.specs.Stages.{ladderStates}
-use Rattle.ladders.specs.Ladders.{transistorCoefficients, transistorStep, drivenCoefficients, drivenStep, acidCoefficients, acidStep, cleanCoefficients, cleanStep}
-use Rattle.expanders.specs.Expanders.{expanderCoefficients, bandStep, multimodeWeights, multimodeStep, k35Coefficients, k35States, k35Step}
+use Rattle.ladders.specs.Ladders.{transistorCoefficients, transistorStep, drivenCoefficients, drivenStep}
+use Rattle.ladders.specs.Ladders.{acidCoefficients, acidStep, cleanLadderCoefficients, cleanLadderStep}
+use Rattle.expanders.specs.Expanders.{expanderCoefficients, bandStep, multimodeWeights, multimodeStep, k35Coefficients, k35Step}
 use Rattle.poles.specs.declared.PoleSection.{PoleSection}
 use Rattle.poles.specs.Poles.{poleCoefficients, poleStage, poleSeries, poleStep}
 use Rattle.combs.specs.declared.Comb2.{Comb2}
@@ -52,7 +56,7 @@ module _ (state : List Float) (x : Float) where
       (λ j d h e. simp length-set e)
       refl
 
-  ladder-length : (y : Four) → length (ladderStates state y) ≡ length state
+  ladder-length : (y : Stages) → length (ladderStates state y) ≡ length state
   unfolding ladderStates
   ladder-length y = simp length-set
 
@@ -68,8 +72,8 @@ module _ (state : List Float) (x : Float) where
   unfolding acidStep
   acid-length c = ladder-length _
 
-  clean-length : (c : DiodeLadder) → length (cleanStep c state x .state) ≡ length state
-  unfolding cleanStep
+  clean-length : (c : DiodeLadder) → length (cleanLadderStep c state x .state) ≡ length state
+  unfolding cleanLadderStep
   clean-length c = ladder-length _
 
   band-length : (c : Expander) → length (bandStep c state x .state) ≡ length state
@@ -81,7 +85,7 @@ module _ (state : List Float) (x : Float) where
   multimode-length c w = ladder-length _
 
   k35-length : (c : K35) → length (k35Step c state x .state) ≡ length state
-  unfolding k35Step k35States
+  unfolding k35Step
   k35-length c = simp length-set
 
   pole-length : (c : ℕ → PoleSection) (active : ℕ) (gain : Float) → length (poleStep c active gain state x .state) ≡ length state
@@ -111,20 +115,25 @@ module _ (state ring : List Float) where
   on-states : (t : Ticked) → length (t .state) ≡ length state → SameLengths state ring (onStates ring t)
   on-states t e = record { states = e; cells = refl }
 
-module _ (code : ℕ) (sections : List Float) (active : ℕ) (gain : Float) (len cursor : ℕ) (pitch : Pitch) (p : Settings) (state ring : List Float) (x : Float) where
-  pub kernel-lengths : SameLengths state ring (kernelOf code sections active gain len cursor pitch p state ring x)
+module _ (code : ℕ) (table : Table) (len cursor : ℕ) (pitch : Pitch) (p : Settings) (state ring : List Float) (x : Float) where
+  -- a kernel on the states, from what it does to them
+  one-of : (n : ℕ) (t : Ticked) → length (t .state) ≡ length state → (rest : Kernel) → SameLengths state ring rest
+      → SameLengths state ring (cond (eqb code n) (onStates ring t) rest)
+  one-of n t e rest h = either state ring (eqb code n) _ _ (on-states state ring t e) h
+
+  pub kernel-lengths : SameLengths state ring (kernelOf code table len cursor pitch p state ring x)
   unfolding kernelOf
   kernel-lengths =
-      either state ring (eqb code 1) _ _ (on-states state ring (buzzStep (buzzCoefficients pitch p) state x) (buzz-length state x (buzzCoefficients pitch p)))
-      (either state ring (eqb code 2) _ _ (on-states state ring (djStep (djCoefficients pitch p) state x) (dj-length state x (djCoefficients pitch p)))
-      (either state ring (eqb code 3) _ _ (on-states state ring (diffuserStep (diffuserCoefficients pitch p) state x) (diffuser-length state x (diffuserCoefficients pitch p)))
-      (either state ring (eqb code 4) _ _ (on-states state ring (transistorStep (transistorCoefficients pitch p) state x) (transistor-length state x (transistorCoefficients pitch p) x))
-      (either state ring (eqb code 5) _ _ (on-states state ring (acidStep (acidCoefficients pitch p) state x) (acid-length state x (acidCoefficients pitch p)))
-      (either state ring (eqb code 6) _ _ (on-states state ring (cleanStep (cleanCoefficients pitch p) state x) (clean-length state x (cleanCoefficients pitch p)))
-      (either state ring (eqb code 7) _ _ (on-states state ring (drivenStep (drivenCoefficients pitch p) state x) (driven-length state x (drivenCoefficients pitch p)))
-      (either state ring (eqb code 8) _ _ (on-states state ring (poleStep (poleCoefficients sections pitch p) active gain state x) (pole-length state x (poleCoefficients sections pitch p) active gain))
+      one-of 1 (buzzStep _ state x) (buzz-length state x (buzzCoefficients pitch p)) _
+      (one-of 2 (djStep _ state x) (dj-length state x (djCoefficients pitch p)) _
+      (one-of 3 (diffuserStep _ state x) (diffuser-length state x (diffuserCoefficients pitch p)) _
+      (one-of 4 (transistorStep _ state x) (transistor-length state x (transistorCoefficients pitch p) x) _
+      (one-of 5 (acidStep _ state x) (acid-length state x (acidCoefficients pitch p)) _
+      (one-of 6 (cleanLadderStep _ state x) (clean-length state x (cleanLadderCoefficients pitch p)) _
+      (one-of 7 (drivenStep _ state x) (driven-length state x (drivenCoefficients pitch p)) _
+      (one-of 8 (poleStep _ _ _ state x) (pole-length state x (poleCoefficients (table .sections) pitch p) (table .active) (table .gain)) _
       (either state ring (eqb code 9) _ _ (record { states = refl; cells = comb-length (combCoefficients pitch p) len cursor ring x })
-      (either state ring (eqb code 10) _ _ (on-states state ring (multimodeStep (expanderCoefficients pitch p) (multimodeWeights (p .character)) state x) (multimode-length state x (expanderCoefficients pitch p) (multimodeWeights (p .character))))
-      (either state ring (eqb code 11) _ _ (on-states state ring (bandStep (expanderCoefficients pitch p) state x) (band-length state x (expanderCoefficients pitch p)))
-      (either state ring (eqb code 12) _ _ (on-states state ring (k35Step (k35Coefficients pitch p) state x) (k35-length state x (k35Coefficients pitch p)))
+      (one-of 10 (multimodeStep _ _ state x) (multimode-length state x (expanderCoefficients pitch p) (multimodeWeights (p .character))) _
+      (one-of 11 (bandStep _ state x) (band-length state x (expanderCoefficients pitch p)) _
+      (one-of 12 (k35Step _ state x) (k35-length state x (k35Coefficients pitch p)) _
       (record { states = refl; cells = refl }))))))))))))

@@ -1,5 +1,6 @@
--- To be read: Kernels, and Tuning for what is kept. Laws and Keeping have what the proofs here and in run use.
+-- To be read: Kernels.
 pub mod Kernels
 pub mod Tuning
+pub mod Contracts
 pub mod Laws
 pub mod Keeping

@@ -2,17 +2,18 @@
 // again when one of them changes.
 ghost use mathlib.Core.Path.{_≡_};
 ghost use mathlib.Core.Bool.{true, false};
-ghost use lib.ListN.{getD};
-ghost use lib.Ieee.{nan, isNan};
-ghost use Rattle.kernels.specs.Tuning.{threeNumbers, djNumbers, diodeNumbers, drivenNumbers, combNumbers, bandNumbers, multimodeNumbers, k35Numbers, numbersOf, tuningOf, keyOf, Kept, blendedOf, KeptSections};
+ghost use lib.Ieee.{isNan};
+ghost use Rattle.kernels.specs.Tuning.{threeNumbers, djNumbers, rowNumbers, drivenNumbers, combNumbers, bandNumbers};
+ghost use Rattle.kernels.specs.Tuning.{multimodeNumbers, k35Numbers, numbersOf, tuningOf, keyOf, blendedOf};
+ghost use Rattle.kernels.specs.Contracts.{Kept, KeptSections, TunedAt, BlendedAt};
 use combs::Comb2;
 use expanders::Expander;
 use expanders::K35;
 use extended::Settings;
 use filter::Pitch;
 use filter::Ratio;
-use ladders::DiodeLadder;
 use ladders::DrivenLadder;
+use ladders::Rows;
 use stages::Five;
 use sweeps::DjSweep;
 
@@ -40,8 +41,8 @@ fn dj_numbers(c: DjSweep) -> Numbers
     three_numbers(c.g, c.low_side, c.wet)
 }
 
-fn diode_numbers(c: DiodeLadder) -> Numbers
-    ensures { λ r. ⌜ r ≡ diodeNumbers c ⌝ }
+fn row_numbers(c: Rows) -> Numbers
+    ensures { λ r. ⌜ r ≡ rowNumbers c ⌝ }
 {
     Numbers(c.g, c.e, c.r1, c.a1, c.r2, c.a2, c.r3, 0.0)
 }
@@ -83,8 +84,8 @@ fn numbers_of(code: u32, pitch: Pitch, p: Settings) -> Numbers
     let reference = p.ref_over_rate;
     match code {
         2 => dj_numbers(sweeps::dj_coefficients(pitch, p)),
-        5 => diode_numbers(ladders::acid_coefficients(pitch, p)),
-        6 => diode_numbers(ladders::clean_coefficients(pitch, p)),
+        5 => row_numbers(ladders::diode_rows(filter::gain(pitch, reference))),
+        6 => row_numbers(ladders::diode_rows(filter::gain(pitch, reference))),
         7 => driven_numbers(ladders::driven_coefficients(pitch, p)),
         8 => three_numbers(0.0, 0.0, 0.0),
         9 => comb_numbers(combs::comb_coefficients(pitch, p)),
@@ -113,7 +114,7 @@ fn same(a: f32, b: f32) -> bool
 
 // Whether the kept numbers are those of this pitch and character.
 fn is_tuned(tuning: &[f32; 10], pitch: f32, character: f32) -> bool
-    ensures { λ r. ⌜ (r ≡ true → (isNan (getD (now (tuning .entry)) 8 nan) ≡ false) × (getD (now (tuning .entry)) 8 nan ≡ pitch) × (getD (now (tuning .entry)) 9 nan ≡ character)) ⌝ }
+    ensures { λ r. ⌜ (r ≡ true → TunedAt (now (tuning .entry)) pitch character) ⌝ }
 {
     if same(tuning[8], pitch) {
         return same(tuning[9], character);
@@ -155,7 +156,7 @@ pub fn retune(code: u32, tuning: &mut [f32; 10], pitch: Pitch, reference: Ratio,
 
 // Whether the kept numbers of the sections are those of this pitch, X and Y.
 fn is_blended(blended: &[f32; 43], pitch: f32, x: f32, y: f32) -> bool
-    ensures { λ r. ⌜ (r ≡ true → (isNan (getD (now (blended .entry)) 40 nan) ≡ false) × (getD (now (blended .entry)) 40 nan ≡ pitch) × (getD (now (blended .entry)) 41 nan ≡ x) × (getD (now (blended .entry)) 42 nan ≡ y)) ⌝ }
+    ensures { λ r. ⌜ (r ≡ true → BlendedAt (now (blended .entry)) pitch x y) ⌝ }
 {
     if same(blended[40], pitch) {
         if same(blended[41], x) {
@@ -175,7 +176,7 @@ pub fn blend_sections(
     p: Settings,
 )
     requires { ⌜ KeptSections (now sections) active (p .«ref_over_rate») (now blended) ⌝ }
-    ensures { λ _. ⌜ now (blended .exit) ≡ blendedOf code (now (sections .entry)) active (p .«ref_over_rate») pitch (p .x) (p .y) (now (blended .entry)) ⌝ }
+    ensures { λ _. ⌜ now (blended .exit) ≡ blendedOf code (now (sections .entry)) active pitch p (now (blended .entry)) ⌝ }
 {
     if code != 8 {
         return;

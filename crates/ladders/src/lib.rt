@@ -1,10 +1,14 @@
 // The transistor and diode ladders. Each has what follows from the pitch and the settings alone, in a struct of its name, and the
 // step over the input and the states. `t` is the root's table.
 ghost use mathlib.Core.Path.{_≡_};
-ghost use Rattle.ladders.specs.Ladders.{transistorWith, stageGain, stageGains, transistorSolve, transistorStep, drivenCoefficients, drivenWith, drivenStep, diodeRows, acidCoefficients, cleanCoefficients, acidWith, cleanWith, diodeSolve, diodeFeedback, acidStep, cleanStep};
+ghost use Rattle.extended.specs.Extended.{ticked};
+ghost use Rattle.ladders.specs.Ladders.{transistorWith, stageGain, stageGains, transistorSolve, transistorStep};
+ghost use Rattle.ladders.specs.Ladders.{drivenCoefficients, drivenWith, drivenStep};
+ghost use Rattle.ladders.specs.Ladders.{diodeRows, acidWith, cleanLadderWith, diodeSolve, diodeFeedback, acidStep, cleanLadderStep};
 use extended::Settings;
 use filter::Pitch;
 use stages::Four;
+use stages::Stages;
 
 const LOG2_10: f32 = 3.32192809488736234787031942948939018;
 
@@ -18,7 +22,7 @@ const LADDER_COMPENSATION: f32 = 0.5;
 // closed form.
 pub struct TransistorLadder {
     pub g: f32,
-    pub k: f32,
+    pub base: f32,
     pub inv_knee: f32,
 }
 
@@ -31,7 +35,7 @@ pub fn transistor_with(g: f32, p: Settings) -> TransistorLadder
 {
     TransistorLadder {
         g: g,
-        k: p.resonance * LADDER_MAX,
+        base: p.resonance * LADDER_MAX,
         inv_knee: p.inv_knee,
     }
 }
@@ -43,45 +47,49 @@ fn stage_gain(g: f32, s: f32, t: &[u8; 1024]) -> f32
     gi / (1.0 + gi)
 }
 
-fn stage_gains(g: f32, s: Four, t: &[u8; 1024]) -> Four
-    ensures { λ r. ⌜ r ≡ stageGains g s ⌝ }
+fn stage_gains(g: f32, state: &[f32; 20], t: &[u8; 1024]) -> Four
+    ensures { λ r. ⌜ r ≡ stageGains g (now (state .entry)) ⌝ }
 {
     Four(
-        stage_gain(g, s.0, t),
-        stage_gain(g, s.1, t),
-        stage_gain(g, s.2, t),
-        stage_gain(g, s.3, t),
+        stage_gain(g, state[0], t),
+        stage_gain(g, state[1], t),
+        stage_gain(g, state[2], t),
+        stage_gain(g, state[3], t),
     )
 }
 
-fn transistor_solve(s: Four, gg: Four, k: f32, x: f32) -> Four
-    ensures { λ r. ⌜ r ≡ transistorSolve s gg k x ⌝ }
+fn transistor_solve(state: &[f32; 20], gg: Four, k: f32, x: f32) -> Stages
+    ensures { λ r. ⌜ r ≡ transistorSolve (now (state .entry)) gg k x ⌝ }
 {
-    let b0 = (1.0 - gg.0) * s.0;
-    let b1 = (1.0 - gg.1) * s.1;
-    let b2 = (1.0 - gg.2) * s.2;
-    let b3 = (1.0 - gg.3) * s.3;
+    let b0 = (1.0 - gg.0) * state[0];
+    let b1 = (1.0 - gg.1) * state[1];
+    let b2 = (1.0 - gg.2) * state[2];
+    let b3 = (1.0 - gg.3) * state[3];
     let big_g = gg.0 * gg.1 * gg.2 * gg.3;
     let sum = ((b0 * gg.1 + b1) * gg.2 + b2) * gg.3 + b3;
     let input = x * (k * LADDER_COMPENSATION + 1.0);
     let y4 = (big_g * input + sum) / (k * big_g + 1.0);
     let u = input - k * y4;
-    let y0 = gg.0 * u + b0;
-    let y1 = gg.1 * y0 + b1;
-    let y2 = gg.2 * y1 + b2;
-    let y3 = gg.3 * y2 + b3;
-    Four(y0, y1, y2, y3)
+    let y1 = gg.0 * u + b0;
+    let y2 = gg.1 * y1 + b1;
+    let y3 = gg.2 * y2 + b2;
+    Stages {
+        y1: y1,
+        y2: y2,
+        y3: y3,
+        y4: gg.3 * y3 + b3,
+    }
 }
 
 // State: 0 to 3 the stages, 4 the previous fourth-stage output.
 pub fn transistor_step(c: TransistorLadder, state: &mut [f32; 20], x: f32, t: &[u8; 1024]) -> f32
-    ensures { λ r. ⌜ (r ≡ transistorStep c (now (state .entry)) x .out) × (now (state .exit) ≡ transistorStep c (now (state .entry)) x .state) ⌝ }
+    ensures { λ r. ⌜ ticked r (now (state .exit)) ≡ transistorStep c (now (state .entry)) x ⌝ }
 {
-    let s = stages::stages_of(state);
-    let k = c.k * lane::saturation_gain(state[4], c.inv_knee, t);
-    let y = transistor_solve(s, stage_gains(c.g, s, t), k, x);
+    let k = c.base * lane::saturation_gain(state[4], c.inv_knee, t);
+    let gg = stage_gains(c.g, state, t);
+    let y = transistor_solve(state, gg, k, x);
     stages::store_ladder(state, y);
-    y.3
+    y.y4
 }
 
 // The driven ladder: a soft clipper before the transistor ladder, whose gain character raises, scaled so full scale comes out at full
@@ -98,30 +106,14 @@ const DRIVEN_DB: f32 = 30.0;
 // How far below the normal types' the driven ladder's resonance knee sits.
 const DRIVEN_KNEE: f32 = 4.0;
 
-pub fn driven_coefficients(pitch: Pitch, p: Settings) -> DrivenLadder
-    ensures { λ r. ⌜ r ≡ drivenCoefficients pitch p ⌝ }
-{
-    let reference = p.ref_over_rate;
-    let drive = lane::exp2(p.character * (DRIVEN_DB / 20.0 * LOG2_10));
-    DrivenLadder {
-        ladder: TransistorLadder {
-            g: filter::gain(pitch, reference),
-            k: p.resonance * LADDER_MAX,
-            inv_knee: p.inv_knee * DRIVEN_KNEE,
-        },
-        drive: drive,
-        full: lane::soft_clip(drive),
-    }
-}
-
-// From what driven_coefficients gave at the pitch and the character.
+// From what follows from the pitch and the character alone.
 pub fn driven_with(g: f32, drive: f32, full: f32, p: Settings) -> DrivenLadder
     ensures { λ r. ⌜ r ≡ drivenWith g drive full p ⌝ }
 {
     DrivenLadder {
         ladder: TransistorLadder {
             g: g,
-            k: p.resonance * LADDER_MAX,
+            base: p.resonance * LADDER_MAX,
             inv_knee: p.inv_knee * DRIVEN_KNEE,
         },
         drive: drive,
@@ -129,17 +121,25 @@ pub fn driven_with(g: f32, drive: f32, full: f32, p: Settings) -> DrivenLadder
     }
 }
 
+pub fn driven_coefficients(pitch: Pitch, p: Settings) -> DrivenLadder
+    ensures { λ r. ⌜ r ≡ drivenCoefficients pitch p ⌝ }
+{
+    let reference = p.ref_over_rate;
+    let drive = lane::exp2(p.character * (DRIVEN_DB / 20.0 * LOG2_10));
+    let g = filter::gain(pitch, reference);
+    driven_with(g, drive, lane::soft_clip(drive), p)
+}
+
 pub fn driven_step(c: DrivenLadder, state: &mut [f32; 20], x: f32, t: &[u8; 1024]) -> f32
-    ensures { λ r. ⌜ (r ≡ drivenStep c (now (state .entry)) x .out) × (now (state .exit) ≡ drivenStep c (now (state .entry)) x .state) ⌝ }
+    ensures { λ r. ⌜ ticked r (now (state .exit)) ≡ drivenStep c (now (state .entry)) x ⌝ }
 {
     let ladder = c.ladder;
     let u = lane::soft_clip(x * c.drive) / c.full;
     transistor_step(ladder, state, u, t)
 }
 
-// The diode ladders: four coupled stages, each passing part of its neighbour's current back, with feedback from the last, solved in
-// closed form by elimination.
-pub struct DiodeLadder {
+// What a diode ladder's elimination has of the pitch alone, row by row.
+pub struct Rows {
     pub g: f32,
     pub e: f32,
     pub r1: f32,
@@ -147,7 +147,13 @@ pub struct DiodeLadder {
     pub r2: f32,
     pub a2: f32,
     pub r3: f32,
-    pub k: f32,
+}
+
+// The diode ladders: four coupled stages, each passing part of its neighbour's current back, with feedback from the last, solved in
+// closed form by elimination.
+pub struct DiodeLadder {
+    pub rows: Rows,
+    pub base: f32,
     pub inv_knee: f32,
 }
 
@@ -165,9 +171,11 @@ const DIODE_OVERSHOOT: f32 = 1.025;
 // How far below the normal types' the acid ladder's resonance knee sits.
 const ACID_KNEE: f32 = 2.0;
 
-fn diode_rows(g: f32, k: f32, inv_knee: f32) -> DiodeLadder
-    ensures { λ r. ⌜ r ≡ diodeRows g k «inv_knee» ⌝ }
+// From the pitch's gain.
+pub fn diode_rows(gain: f32) -> Rows
+    ensures { λ r. ⌜ r ≡ diodeRows gain ⌝ }
 {
+    let g = gain * (1.0 / DIODE_W);
     let e = g * DIODE_COUPLING;
     let d = 1.0 + g + e;
     let r1 = 1.0 / d;
@@ -175,7 +183,7 @@ fn diode_rows(g: f32, k: f32, inv_knee: f32) -> DiodeLadder
     let r2 = 1.0 / (d - g * a1);
     let a2 = e * r2;
     let r3 = 1.0 / (d - g * a2);
-    DiodeLadder {
+    Rows {
         g: g,
         e: e,
         r1: r1,
@@ -183,123 +191,75 @@ fn diode_rows(g: f32, k: f32, inv_knee: f32) -> DiodeLadder
         r2: r2,
         a2: a2,
         r3: r3,
-        k: k,
-        inv_knee: inv_knee,
     }
 }
 
 // The acid ladder: an asymmetric shaper before it and a low resonance knee.
-pub fn acid_coefficients(pitch: Pitch, p: Settings) -> DiodeLadder
-    ensures { λ r. ⌜ r ≡ acidCoefficients pitch p ⌝ }
-{
-    let reference = p.ref_over_rate;
-    diode_rows(
-        filter::gain(pitch, reference) * (1.0 / DIODE_W),
-        p.resonance * (DIODE_K * DIODE_OVERSHOOT),
-        p.inv_knee * ACID_KNEE,
-    )
-}
-
-// The clean ladder: its pass band compensated for resonance and no shaper.
-pub fn clean_coefficients(pitch: Pitch, p: Settings) -> DiodeLadder
-    ensures { λ r. ⌜ r ≡ cleanCoefficients pitch p ⌝ }
-{
-    let reference = p.ref_over_rate;
-    diode_rows(
-        filter::gain(pitch, reference) * (1.0 / DIODE_W),
-        p.resonance * (DIODE_K * DIODE_OVERSHOOT),
-        p.inv_knee,
-    )
-}
-
-// The same from the rows that were worked out at the pitch.
-pub fn acid_with(
-    g: f32,
-    e: f32,
-    r1: f32,
-    a1: f32,
-    r2: f32,
-    a2: f32,
-    r3: f32,
-    p: Settings,
-) -> DiodeLadder
-    ensures { λ r. ⌜ r ≡ acidWith g e r1 a1 r2 a2 r3 p ⌝ }
+pub fn acid_with(rows: Rows, p: Settings) -> DiodeLadder
+    ensures { λ r. ⌜ r ≡ acidWith rows p ⌝ }
 {
     DiodeLadder {
-        g: g,
-        e: e,
-        r1: r1,
-        a1: a1,
-        r2: r2,
-        a2: a2,
-        r3: r3,
-        k: p.resonance * (DIODE_K * DIODE_OVERSHOOT),
+        rows: rows,
+        base: p.resonance * (DIODE_K * DIODE_OVERSHOOT),
         inv_knee: p.inv_knee * ACID_KNEE,
     }
 }
 
-pub fn clean_with(
-    g: f32,
-    e: f32,
-    r1: f32,
-    a1: f32,
-    r2: f32,
-    a2: f32,
-    r3: f32,
-    p: Settings,
-) -> DiodeLadder
-    ensures { λ r. ⌜ r ≡ cleanWith g e r1 a1 r2 a2 r3 p ⌝ }
+// The clean ladder: its pass band compensated for resonance and no shaper.
+pub fn clean_ladder_with(rows: Rows, p: Settings) -> DiodeLadder
+    ensures { λ r. ⌜ r ≡ cleanLadderWith rows p ⌝ }
 {
     DiodeLadder {
-        g: g,
-        e: e,
-        r1: r1,
-        a1: a1,
-        r2: r2,
-        a2: a2,
-        r3: r3,
-        k: p.resonance * (DIODE_K * DIODE_OVERSHOOT),
+        rows: rows,
+        base: p.resonance * (DIODE_K * DIODE_OVERSHOOT),
         inv_knee: p.inv_knee,
     }
 }
 
-fn diode_solve(c: DiodeLadder, s: Four, k: f32, input: f32) -> Four
-    ensures { λ r. ⌜ r ≡ diodeSolve c s k input ⌝ }
+fn diode_solve(c: Rows, state: &[f32; 20], k: f32, input: f32) -> Stages
+    ensures { λ r. ⌜ r ≡ diodeSolve c (now (state .entry)) k input ⌝ }
 {
-    let b1 = (c.g * input + s.0) * c.r1;
+    let b1 = (c.g * input + state[0]) * c.r1;
     let d1 = -c.g * k * c.r1;
-    let b2 = (c.g * b1 + s.1) * c.r2;
+    let b2 = (c.g * b1 + state[1]) * c.r2;
     let d2 = c.g * d1 * c.r2;
     let p3 = (c.g * d2 + c.e) * c.r3;
-    let b3 = (c.g * b2 + s.2) * c.r3;
-    let y4 = (c.g * b3 + s.3) / (1.0 + c.g - c.g * p3);
+    let b3 = (c.g * b2 + state[2]) * c.r3;
+    let y4 = (c.g * b3 + state[3]) / (1.0 + c.g - c.g * p3);
     let y3 = p3 * y4 + b3;
     let y2 = c.a2 * y3 + (d2 * y4 + b2);
     let y1 = c.a1 * y2 + (d1 * y4 + b1);
-    Four(y1, y2, y3, y4)
+    Stages {
+        y1: y1,
+        y2: y2,
+        y3: y3,
+        y4: y4,
+    }
 }
 
 fn diode_feedback(c: DiodeLadder, state: &[f32; 20], t: &[u8; 1024]) -> f32
     ensures { λ r. ⌜ r ≡ diodeFeedback c (now (state .entry)) ⌝ }
 {
-    c.k * lane::saturation_gain(state[4], c.inv_knee, t)
+    c.base * lane::saturation_gain(state[4], c.inv_knee, t)
 }
 
 // State: 0 to 3 the stages, 4 the previous fourth-stage output.
 pub fn acid_step(c: DiodeLadder, state: &mut [f32; 20], x: f32, t: &[u8; 1024]) -> f32
-    ensures { λ r. ⌜ (r ≡ acidStep c (now (state .entry)) x .out) × (now (state .exit) ≡ acidStep c (now (state .entry)) x .state) ⌝ }
+    ensures { λ r. ⌜ ticked r (now (state .exit)) ≡ acidStep c (now (state .entry)) x ⌝ }
 {
+    let rows = c.rows;
     let k = diode_feedback(c, state, t);
-    let y = diode_solve(c, stages::stages_of(state), k, extended::asym(x));
+    let y = diode_solve(rows, state, k, extended::asym(x));
     stages::store_ladder(state, y);
-    y.3
+    y.y4
 }
 
-pub fn clean_step(c: DiodeLadder, state: &mut [f32; 20], x: f32, t: &[u8; 1024]) -> f32
-    ensures { λ r. ⌜ (r ≡ cleanStep c (now (state .entry)) x .out) × (now (state .exit) ≡ cleanStep c (now (state .entry)) x .state) ⌝ }
+pub fn clean_ladder_step(c: DiodeLadder, state: &mut [f32; 20], x: f32, t: &[u8; 1024]) -> f32
+    ensures { λ r. ⌜ ticked r (now (state .exit)) ≡ cleanLadderStep c (now (state .entry)) x ⌝ }
 {
+    let rows = c.rows;
     let k = diode_feedback(c, state, t);
-    let y = diode_solve(c, stages::stages_of(state), k, x * (1.0 + k));
+    let y = diode_solve(rows, state, k, x * (1.0 + k));
     stages::store_ladder(state, y);
-    y.3
+    y.y4
 }

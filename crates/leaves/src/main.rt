@@ -1,7 +1,6 @@
 // Replays rows `name inputs = answer` on the proved functions: writes each row again with the answer computed, so that the
 // output is the input where every answer is right, bit for bit. A line that starts with `#` is copied; a row that cannot be
 // read gives `?`.
-ghost use Prim.Native.Nat.{_<_, _≤_};
 use filter::Pitch;
 use filter::Ratio;
 use filter::VoiceParams;
@@ -12,7 +11,7 @@ use pole_zero::Answer;
 use pole_zero::PoleZeroDesign;
 use pole_zero::Table;
 
-// A point that was read, and the word after it; not ok where the words are no point.
+// A point that was read, and where the word after it starts; not ok where the words are no point.
 struct PointRead {
     point: Point,
     next: usize,
@@ -31,30 +30,6 @@ struct DesignRead {
     ok: bool,
 }
 
-// The place of `name` in the list of names, from 0; 99 where it is none of them.
-fn place(names: &[u8], name: &[u8]) -> usize {
-    let mut at = 0;
-    let mut k = 0;
-    while at < names.len() {
-        let end = text::word(names, at).end;
-        if end < at {
-            return 99;
-        }
-        if end > names.len() {
-            return 99;
-        }
-        if check::same(&names[at..end], name) {
-            return k;
-        }
-        if end == names.len() {
-            return 99;
-        }
-        at = end + 1;
-        k += 1;
-    }
-    99
-}
-
 // The position of the first `=`, else the line's end.
 fn equals(s: &[u8]) -> usize {
     let mut i = 0;
@@ -67,87 +42,13 @@ fn equals(s: &[u8]) -> usize {
     i
 }
 
-// Where the words before `end` start; answers how many there are.
-fn split(s: &[u8], end: usize, starts: &mut [usize; 256]) -> usize {
-    let mut at = 0;
-    let mut n = 0;
-    while n < 256 {
-        if at >= end {
-            return n;
-        }
-        starts[n] = at;
-        n += 1;
-        let e = text::word(s, at).end;
-        if e >= end {
-            return n;
-        }
-        at = e + 1;
-    }
-    n
-}
-
-// Word k as bits; 2^32 where it is not eight hexadecimal digits.
-fn bits_at(s: &[u8], starts: &[usize; 256], k: usize) -> u64 {
-    if k < 256 {
-        let p = text::hexadecimal(s, text::word(s, starts[k]));
-        return match p {
-            text::Pattern::Bits(b) => b as u64,
-            text::Pattern::Malformed => 4294967296,
-        };
-    }
-    4294967296
-}
-
-// Word k as an f32; 0 where it is none.
-fn float_at(s: &[u8], starts: &[usize; 256], k: usize) -> f32 {
-    let b = bits_at(s, starts, k);
-    if b > 4294967295 {
-        return 0.0;
-    }
-    text::float_of(b as u32)
-}
-
-// Whether the words from `from` up to `to` are all f32.
-fn are_floats(s: &[u8], starts: &[usize; 256], from: usize, to: usize) -> bool {
-    let mut k = from;
-    while k < to {
-        if bits_at(s, starts, k) == 4294967296 {
-            return false;
-        }
-        k += 1;
-    }
-    true
-}
-
-// Word k as a decimal; `or` where it is none.
-fn decimal_at(s: &[u8], starts: &[usize; 256], k: usize, or: u64) -> u64 {
-    if k < 256 {
-        let d = text::decimal(s, text::word(s, starts[k]));
-        return match d {
-            text::Number::Value(v) => v,
-            text::Number::Refused => or,
-        };
-    }
-    or
-}
-
-// Whether word k is a decimal.
-fn is_decimal(s: &[u8], starts: &[usize; 256], k: usize) -> bool {
-    decimal_at(s, starts, k, 0) == decimal_at(s, starts, k, 1)
-}
-
-// Writes a number's bits.
-fn put_value(out: &mut [u8], at: usize, x: f32) -> usize {
-    text::put_hex(out, at, text::bits_of(x))
-}
-
 // Writes number i of a list, after a blank where it is not the first.
 fn put_item(out: &mut [u8], at: usize, i: usize, x: f32) -> usize {
     if i == 0 {
-        return put_value(out, at, x);
+        return words::put_value(out, at, x);
     }
     let p = text::put_byte(out, at, b' ');
-    put_value(out, p, x)
+    words::put_value(out, p, x)
 }
 
 // Writes the numbers' bits, a blank between two.
@@ -157,47 +58,6 @@ fn put_floats(out: &mut [u8], at: usize, xs: &[f32]) -> usize {
     while i < xs.len() {
         p = put_item(out, p, i, xs[i]);
         i += 1;
-    }
-    p
-}
-
-// How many numbers from i on have the bits of the first.
-fn run_len(xs: &[f32], i: usize) -> usize {
-    let mut j = i;
-    while j < xs.len() {
-        if text::bits_of(xs[j]) != text::bits_of(xs[i]) {
-            return j - i;
-        }
-        j += 1;
-    }
-    j - i
-}
-
-// A blank, the bits, and the count where it is above 1.
-fn put_run(out: &mut [u8], at: usize, x: f32, n: usize) -> usize {
-    let p = text::put_byte(out, at, b' ');
-    let p = put_value(out, p, x);
-    if n == 1 {
-        return p;
-    }
-    let p = text::put_byte(out, p, b'*');
-    text::put_decimal(out, p, n as u64)
-}
-
-// Writes the numbers' bits in runs.
-fn put_runs(out: &mut [u8], at: usize, xs: &[f32]) -> usize {
-    let mut p = at;
-    let mut i = 0;
-    while i < xs.len() {
-        let n = run_len(xs, i);
-        if n == 0 {
-            return p;
-        }
-        if n > xs.len() - i {
-            return p;
-        }
-        p = put_run(out, p, xs[i], n);
-        i += n;
     }
     p
 }
@@ -216,55 +76,44 @@ fn kind_of(kind: u64, a: f32, b: f32) -> PointKind {
     }
 }
 
-// How many words a point of a kind takes; 0 for no kind.
-fn width_of(kind: u64) -> usize
-    ensures { λ r. ⌜ r ≤ 5 ⌝ }
-{
+// How many f32 follow a kind; 0 for no kind.
+fn numbers_of(kind: u64) -> usize {
     match kind {
-        0..=5 => 3,
-        6 => 4,
-        7 => 5,
+        0..=5 => 2,
+        6 => 3,
+        7 => 4,
         _ => 0,
     }
 }
 
-// The frequency and Q after word k, and what the kind carries.
-fn point_of(kind: u64, s: &[u8], starts: &[usize; 256], k: usize) -> Point
-    requires { ⌜ k ≤ 250 ⌝ }
-{
+// The frequency and Q after the word at `at`, and what the kind carries.
+fn point_of(kind: u64, s: &[u8], at: usize) -> Point {
     Point {
-        kind: kind_of(kind, float_at(s, starts, k + 3), float_at(s, starts, k + 4)),
-        frequency: float_at(s, starts, k + 1),
-        q: float_at(s, starts, k + 2),
+        kind: kind_of(kind, words::float_at(s, at, 3), words::float_at(s, at, 4)),
+        frequency: words::float_at(s, at, 1),
+        q: words::float_at(s, at, 2),
     }
 }
 
-// The point at word k.
-fn point_at(s: &[u8], starts: &[usize; 256], k: usize) -> PointRead {
-    let kind = decimal_at(s, starts, k, 99);
-    let width = width_of(kind);
-    if k > 250 {
-        return PointRead {
-            point: Point::default(),
-            next: 0,
-            ok: false,
-        };
-    }
+// The point from the word at `at` on.
+fn point_at(s: &[u8], at: usize) -> PointRead {
+    let kind = words::decimal_at(s, at, 0, 99);
+    let n = numbers_of(kind);
     PointRead {
-        point: point_of(kind, s, starts, k),
-        next: k + width,
-        ok: (width > 0) & are_floats(s, starts, k + 1, k + width),
+        point: point_of(kind, s, at),
+        next: words::start(s, words::start(s, at, 1), n),
+        ok: (n > 0) & words::are_floats(s, at, 1, n),
     }
 }
 
-// Eight points from word k.
-fn state_at(s: &[u8], starts: &[usize; 256], k: usize) -> StateRead {
+// Eight points from the word at `at` on.
+fn state_at(s: &[u8], at: usize) -> StateRead {
     let mut points = [Point::default(); 8];
-    let mut next = k;
+    let mut next = at;
     let mut ok = true;
     let mut i = 0;
     while i < 8 {
-        let r = point_at(s, starts, next);
+        let r = point_at(s, next);
         let p = r.point;
         points[i] = p;
         next = r.next;
@@ -278,14 +127,12 @@ fn state_at(s: &[u8], starts: &[usize; 256], k: usize) -> StateRead {
     }
 }
 
-// The gain and four states from word k.
-fn design_at(s: &[u8], starts: &[usize; 256], k: usize) -> DesignRead
-    requires { ⌜ k < 256 ⌝ }
-{
-    let a = state_at(s, starts, k + 1);
-    let b = state_at(s, starts, a.next);
-    let c = state_at(s, starts, b.next);
-    let d = state_at(s, starts, c.next);
+// The gain and four states from the word at `at` on.
+fn design_at(s: &[u8], at: usize) -> DesignRead {
+    let a = state_at(s, words::start(s, at, 1));
+    let b = state_at(s, a.next);
+    let c = state_at(s, b.next);
+    let d = state_at(s, c.next);
     let sa = a.state;
     let sb = b.state;
     let sc = c.state;
@@ -293,35 +140,35 @@ fn design_at(s: &[u8], starts: &[usize; 256], k: usize) -> DesignRead
     DesignRead {
         design: PoleZeroDesign {
             states: [sa, sb, sc, sd],
-            gain_db: float_at(s, starts, k),
+            gain_db: words::float_at(s, at, 0),
         },
         next: d.next,
-        ok: are_floats(s, starts, k, k + 1) & a.ok & b.ok & c.ok & d.ok,
+        ok: words::are_floats(s, at, 0, 1) & a.ok & b.ok & c.ok & d.ok,
     }
 }
 
-// How many words stand before the `=` of a row, for the names 0 to 14: the name, and each an f32.
-fn words(name: usize) -> usize {
+// How many f32 a row of the names 0 to 14 takes.
+fn inputs(name: usize) -> usize {
     match name {
-        0 | 1 | 8 | 10 | 11 => 3,
-        9 | 12 => 6,
-        13 => 10,
-        _ => 2,
+        0 | 1 | 8 | 10 | 11 => 2,
+        9 | 12 => 5,
+        13 => 9,
+        _ => 1,
     }
 }
 
-// The nine numbers from word 1 on.
-fn nine(s: &[u8], starts: &[usize; 256]) -> [f32; 9] {
+// The nine numbers from the word at `at` on.
+fn nine(s: &[u8], at: usize) -> [f32; 9] {
     [
-        float_at(s, starts, 1),
-        float_at(s, starts, 2),
-        float_at(s, starts, 3),
-        float_at(s, starts, 4),
-        float_at(s, starts, 5),
-        float_at(s, starts, 6),
-        float_at(s, starts, 7),
-        float_at(s, starts, 8),
-        float_at(s, starts, 9),
+        words::float_at(s, at, 0),
+        words::float_at(s, at, 1),
+        words::float_at(s, at, 2),
+        words::float_at(s, at, 3),
+        words::float_at(s, at, 4),
+        words::float_at(s, at, 5),
+        words::float_at(s, at, 6),
+        words::float_at(s, at, 7),
+        words::float_at(s, at, 8),
     ]
 }
 
@@ -380,14 +227,14 @@ fn float_row(out: &mut [u8], at: usize, name: usize, x: [f32; 9], t: &[u8; 1024]
         12 => put_svf(out, at, x),
         13 => put_targets(out, at, x),
         14 => text::put_decimal(out, at, lines::ring_len(x[0]) as u64),
-        _ => put_value(out, at, value_of(name, x, t)),
+        _ => words::put_value(out, at, value_of(name, x, t)),
     }
 }
 
 // `point` POINT
-fn point_row(s: &[u8], starts: &[usize; 256], n: usize, out: &mut [u8], at: usize) -> usize {
-    let r = point_at(s, starts, 1);
-    if r.ok & (r.next == n) {
+fn point_row(s: &[u8], end: usize, out: &mut [u8], at: usize) -> usize {
+    let r = point_at(s, words::start(s, 0, 1));
+    if r.ok & (r.next == end) {
         let p = r.point;
         let v = p.section().values();
         return put_floats(out, at, &v);
@@ -396,9 +243,9 @@ fn point_row(s: &[u8], starts: &[usize; 256], n: usize, out: &mut [u8], at: usiz
 }
 
 // `table` DESIGN
-fn table_row(s: &[u8], starts: &[usize; 256], n: usize, out: &mut [u8], at: usize) -> usize {
-    let r = design_at(s, starts, 1);
-    if r.ok & (r.next == n) {
+fn table_row(s: &[u8], end: usize, out: &mut [u8], at: usize) -> usize {
+    let r = design_at(s, words::start(s, 0, 1));
+    if r.ok & (r.next == end) {
         let d = r.design;
         return put_table(out, at, Table::of(d));
     }
@@ -408,18 +255,18 @@ fn table_row(s: &[u8], starts: &[usize; 256], n: usize, out: &mut [u8], at: usiz
 fn put_table(out: &mut [u8], at: usize, t: Table) -> usize {
     let p = text::put_decimal(out, at, t.active as u64);
     let p = text::put_byte(out, p, b' ');
-    let p = put_value(out, p, t.gain);
+    let p = words::put_value(out, p, t.gain);
     let v = t.sections;
-    put_runs(out, p, &v)
+    words::put_runs(out, p, &v)
 }
 
 // `section` point x y DESIGN
-fn section_row(s: &[u8], starts: &[usize; 256], n: usize, out: &mut [u8], at: usize) -> usize {
-    let r = design_at(s, starts, 4);
-    if r.ok & (r.next == n) & is_decimal(s, starts, 1) & are_floats(s, starts, 2, 4) {
+fn section_row(s: &[u8], end: usize, out: &mut [u8], at: usize) -> usize {
+    let r = design_at(s, words::start(s, 0, 4));
+    if r.ok & (r.next == end) & words::are_decimals(s, 0, 1, 1) & words::are_floats(s, 0, 2, 2) {
         let d = r.design;
-        let p = decimal_at(s, starts, 1, 0) as usize;
-        let a = d.section(p, float_at(s, starts, 2), float_at(s, starts, 3));
+        let p = words::decimal_at(s, 0, 1, 0) as usize;
+        let a = d.section(p, words::float_at(s, 0, 2), words::float_at(s, 0, 3));
         return put_answer(out, at, a);
     }
     0
@@ -432,34 +279,25 @@ fn put_answer(out: &mut [u8], at: usize, a: Answer) -> usize {
     }
 }
 
-fn is_read(s: &[u8], starts: &[usize; 256]) -> bool {
-    is_decimal(s, starts, 1)
-        & is_decimal(s, starts, 2)
-        & is_decimal(s, starts, 3)
-        & is_decimal(s, starts, 4)
-        & are_floats(s, starts, 5, 6)
-}
-
 // `read` cells len cursor slot delay
-fn read_row(
-    s: &[u8],
-    starts: &[usize; 256],
-    n: usize,
-    cells: &[f32],
-    out: &mut [u8],
-    at: usize,
-) -> usize {
-    if n != 6 {
+fn read_row(s: &[u8], end: usize, cells: &[f32], out: &mut [u8], at: usize) -> usize {
+    if words::start(s, 0, 6) != end {
         return 0;
     }
-    if is_read(s, starts) {
-        let count = decimal_at(s, starts, 1, 0) as usize;
-        let len = decimal_at(s, starts, 2, 0) as usize;
-        let cursor = decimal_at(s, starts, 3, 0) as usize;
-        let slot = decimal_at(s, starts, 4, 0) as usize;
+    if words::are_decimals(s, 0, 1, 4) & words::are_floats(s, 0, 5, 1) {
+        let count = words::decimal_at(s, 0, 1, 0) as usize;
+        let len = words::decimal_at(s, 0, 2, 0) as usize;
+        let cursor = words::decimal_at(s, 0, 3, 0) as usize;
+        let slot = words::decimal_at(s, 0, 4, 0) as usize;
         if count <= cells.len() {
-            let x = lines::read_at(&cells[0..count], len, cursor, slot, float_at(s, starts, 5));
-            return put_value(out, at, x);
+            let x = lines::read_at(
+                &cells[0..count],
+                len,
+                cursor,
+                slot,
+                words::float_at(s, 0, 5),
+            );
+            return words::put_value(out, at, x);
         }
     }
     0
@@ -468,24 +306,24 @@ fn read_row(
 // A name and the f32 that it takes.
 fn floats_row(
     s: &[u8],
-    starts: &[usize; 256],
-    n: usize,
+    end: usize,
     name: usize,
     t: &[u8; 1024],
     out: &mut [u8],
     at: usize,
 ) -> usize {
-    if (n == words(name)) & are_floats(s, starts, 1, n) {
-        return float_row(out, at, name, nine(s, starts), t);
+    let first = words::start(s, 0, 1);
+    let n = inputs(name);
+    if (words::start(s, first, n) == end) & words::are_floats(s, first, 0, n) {
+        return float_row(out, at, name, nine(s, first), t);
     }
     0
 }
 
-// Writes a row's answer at `at`, and answers the position after it; 0 where the row cannot be read.
+// Writes the answer of the row whose `=` is at `end`, and answers the position after it; 0 where the row cannot be read.
 fn answer(
     s: &[u8],
-    starts: &[usize; 256],
-    n: usize,
+    end: usize,
     name: usize,
     cells: &[f32],
     t: &[u8; 1024],
@@ -493,24 +331,22 @@ fn answer(
     at: usize,
 ) -> usize {
     match name {
-        0..=14 => floats_row(s, starts, n, name, t, out, at),
-        15 => point_row(s, starts, n, out, at),
-        16 => table_row(s, starts, n, out, at),
-        17 => section_row(s, starts, n, out, at),
-        18 => read_row(s, starts, n, cells, out, at),
+        0..=14 => floats_row(s, end, name, t, out, at),
+        15 => point_row(s, end, out, at),
+        16 => table_row(s, end, out, at),
+        17 => section_row(s, end, out, at),
+        18 => read_row(s, end, cells, out, at),
         _ => 0,
     }
 }
 
-// The place of the row's name; 99 where it has none.
+// The place of the row's name; 19 where it has none.
 fn name_of(s: &[u8]) -> usize {
-    let end = text::word(s, 0).end;
-    if end > s.len() {
-        return 99;
-    }
-    place(
+    words::name_at(
         b"max min exp2 tan soft_clip sqrt log2 asym saturation_gain hermite ratio_of gain svf targets_of ring_len point table section read",
-        &s[0..end],
+        19,
+        s,
+        0,
     )
 }
 
@@ -523,10 +359,8 @@ fn row(s: &[u8], cells: &[f32], t: &[u8; 1024], out: &mut [u8]) -> usize {
     if eq > s.len() - 2 {
         return 0;
     }
-    let mut starts = [0usize; 256];
-    let n = split(s, eq, &mut starts);
     let at = text::put_bytes(out, 0, &s[0..eq + 2]);
-    answer(s, &starts, n, name_of(s), cells, t, out, at)
+    answer(s, eq, name_of(s), cells, t, out, at)
 }
 
 // Whether the line is neither empty nor to be copied.

@@ -1,3 +1,4 @@
+-- For the proofs: nothing here must be believed.
 -- A held delay lies between 2 and len - 3, and so does its whole part. By the cases of the clamp. Assumes nothing.
 use mathlib.Core.Path.{_≡_, refl, sym, subst}
 use mathlib.Core.Bool.{Bool, true, false, cond, not}
@@ -16,11 +17,14 @@ use Rattle.lines.specs.Order.{le-is, nan-le}
 use Rattle.lines.specs.Whole.{Between, between-wholes}
 
 -- the clamp by `>=` and `<=`, where a NaN fails the first test
-pub held-is : (len : ℕ) (d : Float) → isNan (longest len) ≡ false → held len d ≡ cond (le minDelay d) (cond (le d (longest len)) d (longest len)) minDelay
+pub held-is : (len : ℕ) (d : Float) → isNan (longest len) ≡ false
+    → held len d ≡ cond (le minDelay d) (cond (le d (longest len)) d (longest len)) minDelay
 unfolding held clampOf round isNan
 held-is len d n = go (isNan d) refl
   where
-    go : (x : Bool) → isNan d ≡ x → cond x minDelay (cond (lt d minDelay) minDelay (cond (lt (longest len) d) (longest len) d)) ≡ cond (le minDelay d) (cond (le d (longest len)) d (longest len)) minDelay
+    go : (x : Bool) → isNan d ≡ x
+        → cond x minDelay (cond (lt d minDelay) minDelay (cond (lt (longest len) d) (longest len) d))
+        ≡ cond (le minDelay d) (cond (le d (longest len)) d (longest len)) minDelay
     go true p = rw (nan-le d minDelay p)
     go false p = rw (le-is d minDelay p refl, le-is (longest len) d n p) (sides (lt d minDelay) (lt (longest len) d))
       where

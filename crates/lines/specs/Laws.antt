@@ -14,10 +14,11 @@ use lib.Pow.{pow-mono}
 use borrow.Author.Tests.{le-leb}
 use lib.Ieee.{Float, nan, size}
 use lib.Ieee.Digits.{size-lt, size-le}
-use Rattle.lane.specs.Floats.{_⊖_, _⊗_, whole}
+use Rattle.lane.specs.Floats.{_⊖_, _⊗_, _‼_, whole}
 use Rattle.parts.specs.Parts.{piece, patch}
 use Rattle.parts.specs.Laws.{set-piece, length-piece, piece-patch, piece-other}
-use Rattle.lines.specs.Lines.{wholePart, rateRefused, maxDelaySeconds, nextPower, ringLen, hermiteOf, held, cellOf, tapsOf, ringRead, ringWrite, isLength, isView, readOf, writeOf}
+use Rattle.lines.specs.Lines.{wholePart, rateRefused, maxDelaySeconds, nextPower, ringLen, hermiteOf, held, cellOf, tapsOf, ringRead, ringWrite}
+use Rattle.lines.specs.Lines.{isLength, isView, readOf, writeOf}
 use Rattle.lines.specs.Length.{eighth}
 use Rattle.lines.specs.Delay.{held-between}
 use Rattle.lines.specs.View.{length-of, good, cell-other}
@@ -76,21 +77,26 @@ unfolding cellOf
 cells-apart len cursor delay g c =
     let l = length-of len g in
     let b = held-between len delay (l .least) (l .most) in
-    let at : (back : ℕ) → 0 < back → back < len → Apart len cursor back = λ back p h. record { inside = mod-lt _ (omega arith); other = cell-other len cursor back g c p h } in
+    let at : (back : ℕ) → 0 < back → back < len → Apart len cursor back
+    = λ back p h. record { inside = mod-lt _ (omega arith); other = cell-other len cursor back g c p h } in
     (b .least, b .most, at _ (omega arith) (omega arith), at _ (omega arith) (omega arith), at _ (omega arith) (omega arith), at _ (omega arith) (omega arith))
 
 -- what stands in the cursor's own cell is never read
-pub read-past : (len cursor : ℕ) (delay v : Float) (ring : List Float) → isLength len ≡ true → cursor < 2 ^ 64 → ringRead len cursor delay (ringWrite len cursor v ring) ≡ ringRead len cursor delay ring
+pub read-past : (len cursor : ℕ) (delay v : Float) (ring : List Float) → isLength len ≡ true → cursor < 2 ^ 64
+    → ringRead len cursor delay (ringWrite len cursor v ring) ≡ ringRead len cursor delay ring
 unfolding ringRead ringWrite tapsOf
 read-past len cursor delay v ring g c =
     let w = wholePart (held len delay) in
     let t = held len delay ⊖ whole w in
     let a = cells-apart len cursor delay g c in
-    let same : (back : ℕ) → Apart len cursor back → getD (set ring (cursor % len) v) (cellOf len cursor back) nan ≡ getD ring (cellOf len cursor back) nan = λ back p. getD-set-other ring (cursor % len) (cellOf len cursor back) v nan (p .other) in
+    let same : (back : ℕ) → Apart len cursor back → set ring (cursor % len) v ‼ cellOf len cursor back ≡ ring ‼ cellOf len cursor back
+    = λ back p. getD-set-other ring (cursor % len) (cellOf len cursor back) v nan (p .other) in
     λ i. hermiteOf (same (w - 1) (a .2) i) (same w (a .3) i) (same (w + 1) (a .4) i) (same (w + 2) (a .5) i) t
 
 -- a read depends on the slot's ring alone
-pub read-own : (xs ys : List Float) (len cursor slot : ℕ) (delay : Float) → length xs ≡ length ys → piece len slot xs ≡ piece len slot ys → readOf xs len cursor slot delay ≡ readOf ys len cursor slot delay
+pub read-own : (xs ys : List Float) (len cursor slot : ℕ) (delay : Float)
+    → length xs ≡ length ys → piece len slot xs ≡ piece len slot ys
+    → readOf xs len cursor slot delay ≡ readOf ys len cursor slot delay
 unfolding readOf
 read-own xs ys len cursor slot delay l e = rw (l, e)
 
@@ -144,7 +150,8 @@ module _ (xs : List Float) (len cursor slot : ℕ) (v : Float) where
   unfolding writeOf
   write-other-ring s ne = go (isView len slot (length xs)) refl
     where
-      go : (x : Bool) → isView len slot (length xs) ≡ x → piece len s (cond x (patch len slot (ringWrite len cursor v (piece len slot xs)) xs) xs) ≡ piece len s xs
+      go : (x : Bool) → isView len slot (length xs) ≡ x
+          → piece len s (cond x (patch len slot (ringWrite len cursor v (piece len slot xs)) xs) xs) ≡ piece len s xs
       go true h =
           let g = good len slot (length xs) h in
           piece-other len s slot (ringWrite len cursor v (piece len slot xs)) xs ne (g .ends)

@@ -1,3 +1,4 @@
+-- For the proofs: nothing here must be believed.
 -- A ring's length: an eighth of an accepted rate has a whole part from 1,000 to 48,000, as products keep the order; and the next
 -- power of two goes by the number of binary digits. Assumes nothing.
 use mathlib.Core.Path.{_≡_, refl, sym, ap, subst}
@@ -19,7 +20,8 @@ pub power-is : (n j : ℕ) → 2 ^ j < n → n ≤ 2 ^ suc j → 2 ^ suc j ≡ n
 unfolding nextPower
 power-is n j a b =
     let hi : size (n - 1) ≤ suc j = size-le (n - 1) (suc j) (fewer n (2 ^ j) (2 ^ suc j) a b) in
-    let lo : suc j ≤ size (n - 1) = lt-of-not-le (λ (h : size (n - 1) ≤ j). lt-irrefl (n - 1) (lt-of-lt-of-le (size-lt (n - 1)) (le-trans (pow-mono h) (least n (2 ^ j) a)))) in
+    let lo : suc j ≤ size (n - 1)
+    = lt-of-not-le (λ (h : size (n - 1) ≤ j). lt-irrefl (n - 1) (lt-of-lt-of-le (size-lt (n - 1)) (le-trans (pow-mono h) (least n (2 ^ j) a)))) in
     ap (λ (z : ℕ). 2 ^ z) (le-antisymm lo hi)
   where
     fewer : (n p q : ℕ) → p < n → n ≤ q → n - 1 < q

@@ -1,4 +1,5 @@
 pub mod Lines
+pub mod Ring
 pub mod Order
 pub mod Whole
 pub mod Length

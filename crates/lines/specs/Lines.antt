@@ -4,9 +4,9 @@ use Prim.Native.Nat.{ℕ, _+_, _-_, _*_, _%_, _^_}
 use mathlib.Core.Bool.{Bool, true, false, cond, _&&_, _||_}
 use mathlib.Core.List.{List, [], _∷_}
 use lib.Dec.{leb, eqb}
-use lib.ListN.{length, getD, set}
-use lib.Ieee.{Float, nan, size, lt, isNan, toUnsigned}
-use Rattle.lane.specs.Floats.{_⊕_, _⊖_, _⊗_, decimal, whole, zero, two, half}
+use lib.ListN.{length, set}
+use lib.Ieee.{Float, size, lt, isNan, toUnsigned}
+use Rattle.lane.specs.Floats.{_⊕_, _⊖_, _⊗_, _‼_, decimal, whole, zero, two, half}
 use Rattle.lane.specs.Lane.{clampOf}
 use Rattle.parts.specs.Parts.{piece, patch}
 
@@ -62,7 +62,7 @@ cellOf len cursor back = (cursor + (2 ^ 64 - back)) % 2 ^ 64 % len
 -- read between the cells w and w + 1 back, t of the way: cells w - 1 to w + 2
 unfoldable pub tapsOf : ℕ → ℕ → ℕ → Float → List Float → Float
 tapsOf len cursor w t ring =
-    let at : ℕ → Float = λ back. getD ring (cellOf len cursor back) nan in
+    let at : ℕ → Float = λ back. ring ‼ cellOf len cursor back in
     hermiteOf (at (w - 1)) (at w) (at (w + 1)) (at (w + 2)) t
 
 -- read at a delay, with w its whole part

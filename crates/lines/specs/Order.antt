@@ -1,3 +1,4 @@
+-- For the proofs: nothing here must be believed.
 -- The order of floats that are no NaN is total: `y ≤ x` is `x < y` denied. By cases of the two values. Assumes nothing.
 use mathlib.Core.Path.{_≡_, refl, sym}
 use mathlib.Core.Bool.{Bool, true, false, not, _&&_, _||_, true≢false}

@@ -1,3 +1,4 @@
+-- For the proofs: nothing here must be believed.
 -- What a good view is good for: its length is between 1,024 and 65,536 and divides the machine word, and the slot ends within the
 -- list. The cell that a wrapped difference names. By the list of lengths. Assumes nothing.
 use mathlib.Core.Path.{_≡_, refl, sym, ap, _∙_}
@@ -39,7 +40,8 @@ each : (f : ℕ → Bool) (ks : List ℕ) (n : ℕ) → all f ks ≡ true → on
 each f [] n a e = absurd (false≢true e)
 each f (k ∷ ks) n a e = go (f k) (eqb n k) refl refl (each f ks n) a e
   where
-    go : (x z : Bool) → f k ≡ x → eqb n k ≡ z → (all f ks ≡ true → oneOf ks n ≡ true → f n ≡ true) → x && all f ks ≡ true → cond z true (oneOf ks n) ≡ true → f n ≡ true
+    go : (x z : Bool) → f k ≡ x → eqb n k ≡ z → (all f ks ≡ true → oneOf ks n ≡ true → f n ≡ true)
+        → x && all f ks ≡ true → cond z true (oneOf ks n) ≡ true → f n ≡ true
     go true true p r g a e = ap f (eqb-true n k r) ∙ p
     go true false p r g a e = g a e
     go false z p r g a e = absurd (false≢true a)
@@ -79,8 +81,10 @@ ends-test : (len slot have : ℕ) → 0 < len → ltb slot (have / len) ≡ leb 
 ends-test len slot have h = go (ltb slot (have / len)) refl
   where
     go : (b : Bool) → ltb slot (have / len) ≡ b → b ≡ leb (slot * len + len) have
-    go true e = sym (le-leb (slot * len + len) have (omega (arith, suc-mul slot len, le-div-iff-mul-le {k = len} {x = suc slot} {y = have} h .0 (ltb-true slot (have / len) e))))
-    go false e = sym (lt-leb (slot * len + len) have (omega (arith, suc-mul slot len, div-lt-iff-lt-mul {k = len} {x = have} {y = suc slot} h .0 (omega (arith, ltb-false slot (have / len) e)))))
+    go true e = sym (le-leb (slot * len + len) have
+        (omega (arith, suc-mul slot len, le-div-iff-mul-le {k = len} {x = suc slot} {y = have} h .0 (ltb-true slot (have / len) e))))
+    go false e = sym (lt-leb (slot * len + len) have
+        (omega (arith, suc-mul slot len, div-lt-iff-lt-mul {k = len} {x = have} {y = suc slot} h .0 (omega (arith, ltb-false slot (have / len) e)))))
 
 pub is-good : (len slot have : ℕ) → OneOf lengths len → (0 < len) × (ltb slot (have / len) ≡ isView len slot have)
 unfolding isView
@@ -95,11 +99,13 @@ unfolding isView
 is-bad len slot have h = sym (ap (λ (b : Bool). b && leb (slot * len + len) have) (none lengths len h))
 
 -- ---- the cell that a wrapped difference names
-pub cell-is : (len cursor back r : ℕ) → cursor < 2 ^ 64 → back < 2 ^ 64 → r < 2 ^ 64 → (r + back) % 2 ^ 64 ≡ cursor → r % len ≡ cellOf len cursor back
+pub cell-is : (len cursor back r : ℕ) → cursor < 2 ^ 64 → back < 2 ^ 64 → r < 2 ^ 64
+    → (r + back) % 2 ^ 64 ≡ cursor → r % len ≡ cellOf len cursor back
 unfolding cellOf
 cell-is len cursor back r a b c e = ap (λ (z : ℕ). z % len) (wrapped cursor back r a b c e)
   where
-    wrapped : (cursor back r : ℕ) → cursor < 2 ^ 64 → back < 2 ^ 64 → r < 2 ^ 64 → (r + back) % 2 ^ 64 ≡ cursor → r ≡ (cursor + (2 ^ 64 - back)) % 2 ^ 64
+    wrapped : (cursor back r : ℕ) → cursor < 2 ^ 64 → back < 2 ^ 64 → r < 2 ^ 64
+        → (r + back) % 2 ^ 64 ≡ cursor → r ≡ (cursor + (2 ^ 64 - back)) % 2 ^ 64
     wrapped cursor back r a b c e = omega arith
 
 -- neither a few cells on nor a few cells back, with a whole number of turns besides, is a cell the same
@@ -119,7 +125,9 @@ cell-other len cursor back g c p h e =
       | yes u ↦ turns len (r / len) (cursor / len) back (cursor % len) p h (ap (λ (z : ℕ). z + back) x ∙ before cursor back u c ∙ sym y)
       | no u ↦
           turns len (r / len) (cursor / len + 2 ^ 64 / len) back (cursor % len) p h
-          (ap (λ (z : ℕ). z + back) x ∙ after cursor back (omega arith) (omega arith) c ∙ sum (cursor / len) (2 ^ 64 / len) len (cursor % len) cursor y (l .divides))
+          (ap (λ (z : ℕ). z + back) x
+          ∙ after cursor back (omega arith) (omega arith) c
+          ∙ sum (cursor / len) (2 ^ 64 / len) len (cursor % len) cursor y (l .divides))
     ]
   where
     before : (cursor back : ℕ) → back ≤ cursor → cursor < 2 ^ 64 → (cursor + (2 ^ 64 - back)) % 2 ^ 64 + back ≡ cursor

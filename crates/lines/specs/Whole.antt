@@ -1,3 +1,4 @@
+-- For the proofs: nothing here must be believed.
 -- A float between two whole numbers, the lower above 0 and the upper 65,536 at most: the cast to a whole number is defined, and the
 -- whole part lies between them too. By the fraction that the float is. Assumes nothing.
 use mathlib.Core.Bool.{true, false}

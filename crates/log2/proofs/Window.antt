@@ -16,7 +16,8 @@ use lib.Ieee.Exact.{HasValue, odd-sign}
 use lib.Ieee.Fits.{down-pos}
 use lib.Ieee.Positive.{num, den, positive, le→cross, between, value→cross, den-pos}
 use borrow.Author.Tests.{leb-true, leb-false}
-use Rattle.log2.specs.Log2.{rounds, quotient, unitsOf, logUnits, logOf, sixtyFourth, sixtyFour, offset}
+use Rattle.log2.specs.Log2.{rounds, quotient, unitsOf, logUnits, logOf, sixtyFourth, sixtyFour}
+use Rattle.log2.specs.Inner.{offset}
 use Rattle.log2.proofs.Rounds.{rounds-lt}
 use Rattle.log2.proofs.Numerator.{numerator}
 use Rattle.bits.specs.Patterns.{normal, small-is, bits-under}
@@ -31,10 +32,11 @@ unfolding le
 lt-le x y h = or-left (lt x y) (lib.Ieee.eq x y) h
 
 above-zero : (q : Float) → T (le sixtyFourth q) → T (lt q sixtyFour) → T (positive q)
+unfolding lib.Ieee.round
 above-zero q a b = between sixtyFourth q sixtyFour tt tt a (lt-le q sixtyFour b)
 
 under : (q : Float) → T (positive q) → T (lt q sixtyFour) → num q < 64 * den q
-unfolding lt
+unfolding lt lib.Ieee.round
 under nan p h = absurd p
 under (inf s) p h = absurd p
 under (fin true m e) p h = absurd p
@@ -73,6 +75,7 @@ units-are (inf s) X v = absurd v
 units-are (fin s m e) X v = ap (λ (z : ℕ). z / down e) (v .1) ∙ mul-div-cancel X (down-pos e)
 
 sized : (q : Float) (X : ℕ) → T (le sixtyFourth q) → T (lt q sixtyFour) → HasValue q false X (2 ^ 149) → Sized X
+unfolding lib.Ieee.round
 sized q X a b v =
     let p = above-zero q a b in
     let e = value→cross q X (2 ^ 149) v in
@@ -132,7 +135,7 @@ window q f l g =
     (subst (λ (x : Float). T (le sixtyFourth x)) (sym e) l) (subst (λ (x : Float). T (lt x sixtyFour)) (sym e) g))
 
 pub code-window : (q : Float) → T (fits binary32 q) → le (ofBits binary32 1015021568) q ≡ true → lt q (ofBits binary32 1115684864) ≡ true → Window q (toBits binary32 q)
-unfolding ofBits
+unfolding ofBits lib.Ieee.round
 code-window q f a b = window q f (subst T (sym a) tt) (subst T (sym b) tt)
 
 pub window-plain : (q : Float) → le (ofBits binary32 1015021568) q ≡ true → T (not (isNan q))
@@ -182,7 +185,7 @@ log-is q b a c w =
 
 pub code-log : (q : Float) (b : ℕ) → le (ofBits binary32 1015021568) q ≡ true → lt q (ofBits binary32 1115684864) ≡ true → Window q b
     → offset ((b / 8388608 - 1) * 1048576 + rounds 20 (128 * (b % 8388608 + 8388608)) 0) ≡ logOf q
-unfolding ofBits
+unfolding ofBits lib.Ieee.round
 code-log q b a c w =
     ap (λ (z : ℕ). offset ((b / 8388608 - 1) * 1048576 + rounds 20 (128 * z) 0)) (add-comm (b % 8388608) 8388608)
     ∙ sym (log-is q b (subst T (sym a) tt) (subst T (sym c) tt) w)

@@ -5,6 +5,7 @@ use mathlib.Core.Bool.{false, true, cond, _&&_}
 use lib.IntN.{ℤ, pos, negsuc, _+ℤ_, _*ℤ_}
 use lib.Dec.{leb}
 use lib.Ieee.{Float, nan, inf, fin, binary32, up, down, minus, size, round, le, lt}
+use Rattle.lane.specs.Floats.{decimal, whole}
 
 -- k rounds: r is squared and scaled by 2 ^ -30; from 2 ^ 31 on it is halved and F gets the digit 1, below that F gets 0
 unfoldable pub rounds : ℕ → ℕ → ℕ → ℕ
@@ -36,16 +37,12 @@ logUnits X =
 
 -- 1 / 64 and 64
 abbrev pub sixtyFourth : Float
-sixtyFourth = fin false 1 (negsuc 5)
+sixtyFourth = decimal 1 64
 
 abbrev pub sixtyFour : Float
-sixtyFour = fin false 1 (pos 6)
+sixtyFour = whole 64
 
 -- from 1 / 64 up and below 64; any other q, a NaN too, gives 0
 unfoldable pub logOf : Float → Float
 unfolding logUnits le lt
-logOf q = cond (le sixtyFourth q && lt q sixtyFour) (logUnits (unitsOf q)) (fin false 0 (pos 0))
-
--- what the code's last step gives: (v - 126 * 2 ^ 20) / 2 ^ 20
-abbrev pub offset : ℕ → Float
-offset v = quotient (minus v 132120576) 1048576
+logOf q = cond (le sixtyFourth q && lt q sixtyFour) (logUnits (unitsOf q)) (whole 0)

@@ -1,7 +1,8 @@
 // log2 of an f32 in twenty rounds (document 01, Floats): the exponent, and twenty binary digits of the significand's logarithm, each by a square.
 ghost use mathlib.Core.Path.{_≡_};
 ghost use Prim.Native.Nat.{_*_, _<_, _≤_};
-ghost use Rattle.log2.specs.Log2.{rounds, offset, logOf};
+ghost use Rattle.log2.specs.Log2.{rounds, logOf};
+ghost use Rattle.log2.specs.Inner.{offset};
 
 // The twenty binary digits after the point of log2(m / 2^23). b is 1 where the square reaches 2^31, else 0, so a round has no branch.
 fn fraction(m: u64) -> u64

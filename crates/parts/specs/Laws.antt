@@ -1,31 +1,76 @@
 -- For the proofs: nothing here must be believed.
--- Laws of loops, lists made by a rule and lists in pieces, and runs of loads and stores, over any element type. Each goes by induction
+-- Laws of loops, lists made by a rule and lists in pieces, over any element type. Each goes by induction
 -- over the loop's turns, or by cutting the list at the piece's ends. Assumes nothing.
 use mathlib.Core.Path.{_≡_, refl, sym, ap, _∙_, subst}
 use mathlib.Core.Logic.{_≢_}
-use Prim.Native.Nat.{ℕ, zero, suc, _+_, _-_, _*_, _%_, _≤_, _<_}
+use Prim.Native.Nat.{ℕ, zero, suc, _+_, _-_, _*_, _/_, _%_, _≤_, _<_}
 use native.Mathlib.Nat.{le-refl, le-step, not-suc-le-zero, mod-eq-of-lt, mul-add-mod-self-right, mul-le-mul-right, zero-add, suc-add}
+use native.Mathlib.Nat.{add-zero, add-suc, zero-mul, suc-mul, div-add-mod'}
 use native.Mathlib.Decide.{decLe, ℕ-discrete}
 use native.Mathlib.Omega.{arith}
-use mathlib.Core.List.{List, [], _∷_, _++_, append-assoc}
-use lib.ListN.{length, take, drop, getD, set, length-append, length-set, length-take, length-drop, take-append-drop, List·getD-append}
-use lib.Seq.{take-at, drop-at, drop-drop, length-take-le, take-append-le, drop-append-le, getD-at, getD-take, getD-drop, set-append-left, paste, paste-zero, paste-suc, take-all, take-suc, take-suc-set}
+use mathlib.Core.List.{List, [], _∷_, _++_, append-assoc, append-nil}
+use lib.ListN.{length, take, drop, getD, set, length-append, length-set, length-take, length-drop, take-append-drop, drop-of-length-le, List·getD-append}
+use lib.Seq.{take-at, drop-at, drop-drop, length-take-le, take-append-le, drop-append-le, getD-at, getD-take, getD-drop, set-append-left, paste, take-all}
 use Rattle.parts.specs.Parts.{upto, tab, piece, patch}
+
+-- ---- places in rows
+
+-- k·m + s, with s below m, tells k and s
+pub flat-low : (m k i s t : ℕ) → s < m → t < m → k * m + s ≡ i * m + t → s ≡ t
+flat-low m k i s t hs ht e =
+    sym (mod-eq-of-lt hs) ∙ sym (mul-add-mod-self-right k m s) ∙ ap (λ (x : ℕ). x % m) e ∙ mul-add-mod-self-right i m t ∙ mod-eq-of-lt ht
+
+pub flat-high : (m k i s t : ℕ) → s < m → t < m → k * m + s ≡ i * m + t → k ≡ i
+flat-high m k i s t hs ht e =
+    elim (decLe (suc k) i) [
+      | yes l ↦ absurd (omega (arith, mul-le-mul-right m l))
+      | no l ↦ elim (decLe (suc i) k) [ yes u ↦ absurd (omega (arith, mul-le-mul-right m u)) | no u ↦ omega arith ]
+    ]
+
+pub flat-lt : (m n c v : ℕ) → c < m → v < n → c * n + v < m * n
+flat-lt m n c v hc hv = omega (arith, mul-le-mul-right n hc)
 
 -- ---- loops
 
-pub upto-keep {ℓ} : {X : Type ℓ} (P : X → Type 0) (g : ℕ → X → X) (n : ℕ) (x : X) → ((k : ℕ) (y : X) → k < n → P y → P (g k y)) → P x → P (upto g n x)
+pub upto-keep {ℓ} : {X : Type ℓ} (P : X → Type 0) (g : ℕ → X → X) (n : ℕ) (x : X)
+    → ((k : ℕ) (y : X) → k < n → P y → P (g k y)) → P x → P (upto g n x)
 upto-keep P g zero x h p = p
 upto-keep P g (suc n) x h p = h n (upto g n x) (le-refl (suc n)) (upto-keep P g n x (λ k y b. h k y (le-step b)) p)
 
-pub upto-count {ℓ} : {X : Type ℓ} (P : ℕ → X → Type 0) (g : ℕ → X → X) (n : ℕ) (x : X) → ((k : ℕ) (y : X) → k < n → P k y → P (suc k) (g k y)) → P zero x → P n (upto g n x)
+pub upto-count {ℓ} : {X : Type ℓ} (P : ℕ → X → Type 0) (g : ℕ → X → X) (n : ℕ) (x : X)
+    → ((k : ℕ) (y : X) → k < n → P k y → P (suc k) (g k y)) → P zero x → P n (upto g n x)
 upto-count P g zero x h p = p
 upto-count P g (suc n) x h p = h n (upto g n x) (le-refl (suc n)) (upto-count P g n x (λ k y b. h k y (le-step b)) p)
 
 -- loops whose turns are the same
-pub upto-same {ℓ} : {X : Type ℓ} (g h : ℕ → X → X) (n : ℕ) (x : X) → ((k : ℕ) (y : X) → k < n → g k y ≡ h k y) → upto g n x ≡ upto h n x
+pub upto-same {ℓ} : {X : Type ℓ} (g h : ℕ → X → X) (n : ℕ) (x : X)
+    → ((k : ℕ) (y : X) → k < n → g k y ≡ h k y) → upto g n x ≡ upto h n x
 upto-same g h zero x e = refl
 upto-same g h (suc n) x e = e n (upto g n x) (le-refl (suc n)) ∙ ap (h n) (upto-same g h n x (λ k y b. e k y (le-step b)))
+
+-- a turns and then b are a + b
+upto-add {ℓ} : {X : Type ℓ} (g : ℕ → X → X) (a b : ℕ) (x : X) → upto g (a + b) x ≡ upto (λ k. g (a + k)) b (upto g a x)
+upto-add g a zero x = ap (λ (n : ℕ). upto g n x) (add-zero a)
+upto-add g a (suc b) x = ap (λ (n : ℕ). upto g n x) (add-suc a b) ∙ ap (g (a + b)) (upto-add g a b x)
+
+-- a loop over m rows of n columns is one loop over their m * n places
+pub upto-flat {ℓ} : {X : Type ℓ} (g : ℕ → ℕ → X → X) (n m : ℕ) (x : X)
+    → upto (λ s. g (s / n) (s % n)) (m * n) x ≡ upto (λ c. upto (g c) n) m x
+upto-flat g n zero x = ap (λ (k : ℕ). upto (λ s. g (s / n) (s % n)) k x) (zero-mul n)
+upto-flat {X = X} g n (suc m) x =
+    let h : ℕ → X → X = λ s. g (s / n) (s % n) in
+    ap (λ (k : ℕ). upto h k x) (suc-mul m n)
+    ∙ upto-add h (m * n) n x
+    ∙ upto-same (λ k. h (m * n + k)) (g m) n (upto h (m * n) x) (λ k y b. λ i. g (row k b i) (column k b i) y)
+    ∙ ap (upto (g m) n) (upto-flat g n m x)
+  where
+    column : (k : ℕ) → k < n → (m * n + k) % n ≡ k
+    column k b = mul-add-mod-self-right m n k ∙ mod-eq-of-lt b
+
+    row : (k : ℕ) → k < n → (m * n + k) / n ≡ m
+    row k b =
+        flat-high n ((m * n + k) / n) m k k b b
+        (ap (λ (r : ℕ). (m * n + k) / n * n + r) (sym (column k b)) ∙ div-add-mod' (m * n + k) n)
 
 -- turn i makes D of U; every other turn keeps both
 pub upto-focus {ℓ} : {X : Type ℓ} (U D : X → Type 0) (g : ℕ → X → X) (n i : ℕ) (x : X)
@@ -63,21 +108,6 @@ module _ {ℓ} {A : Type ℓ} where
 
 -- ---- pieces
 
--- k·m + s, with s below m, tells k and s
-pub flat-low : (m k i s t : ℕ) → s < m → t < m → k * m + s ≡ i * m + t → s ≡ t
-flat-low m k i s t hs ht e =
-    sym (mod-eq-of-lt hs) ∙ sym (mul-add-mod-self-right k m s) ∙ ap (λ (x : ℕ). x % m) e ∙ mul-add-mod-self-right i m t ∙ mod-eq-of-lt ht
-
-pub flat-high : (m k i s t : ℕ) → s < m → t < m → k * m + s ≡ i * m + t → k ≡ i
-flat-high m k i s t hs ht e =
-    elim (decLe (suc k) i) [
-      | yes l ↦ absurd (omega (arith, mul-le-mul-right m l))
-      | no l ↦ elim (decLe (suc i) k) [ yes u ↦ absurd (omega (arith, mul-le-mul-right m u)) | no u ↦ omega arith ]
-    ]
-
-pub flat-lt : (m n c v : ℕ) → c < m → v < n → c * n + v < m * n
-flat-lt m n c v hc hv = omega (arith, mul-le-mul-right n hc)
-
 -- of k pieces of m, piece s ends within the list
 pub piece-fits : (m s k : ℕ) → s < k → s * m + m ≤ k * m
 piece-fits m s k h = omega (arith, mul-le-mul-right m h)
@@ -85,7 +115,8 @@ piece-fits m s k h = omega (arith, mul-le-mul-right m h)
 module _ {ℓ} {A : Type ℓ} where
   set-append-add : (xs ys : List A) (i : ℕ) (a : A) → set (xs ++ ys) (length xs + i) a ≡ xs ++ set ys i a
   set-append-add [] ys i a = ap (λ (k : ℕ). set ys k a) (zero-add i)
-  set-append-add (x ∷ xs) ys i a = ap (λ (k : ℕ). set (x ∷ (xs ++ ys)) k a) (suc-add (length xs) i) ∙ ap (λ (r : List A). x ∷ r) (set-append-add xs ys i a)
+  set-append-add (x ∷ xs) ys i a =
+      ap (λ (k : ℕ). set (x ∷ (xs ++ ys)) k a) (suc-add (length xs) i) ∙ ap (λ (r : List A). x ∷ r) (set-append-add xs ys i a)
 
   pub length-piece : (m s : ℕ) (xs : List A) → s * m + m ≤ length xs → length (piece m s xs) ≡ m
   unfolding piece
@@ -123,7 +154,8 @@ module _ {ℓ} {A : Type ℓ} where
             let e : ℕ = t * m + m in
             let r : ℕ = s * m - e in
             let es : e + r ≡ s * m = omega (arith, mul-le-mul-right m lt) in
-            let back : (l₂ : List A) → drop (s * m) l₂ ≡ drop r (drop e l₂) = λ l₂. ap (λ (k : ℕ). drop k l₂) (sym es) ∙ sym (drop-drop r e l₂) in
+            let back : (l₂ : List A) → drop (s * m) l₂ ≡ drop r (drop e l₂)
+            = λ l₂. ap (λ (k : ℕ). drop k l₂) (sym es) ∙ sym (drop-drop r e l₂) in
             ap (λ (q : List A). take m q)
             (back (take (t * m) xs ++ ys ++ drop e xs)
             ∙ ap (λ (q : List A). drop r q) (drop-at (take (t * m) xs ++ ys) (drop e xs) e (simp (length-append, length-take) (omega arith)))
@@ -169,51 +201,6 @@ module _ {ℓ} {A : Type ℓ} where
   unfolding patch
   patch-paste m s ys xs l = ap (λ (r : List A). take (s * m) xs ++ r ++ drop (s * m + m) xs) (take-all m ys (omega arith))
 
-  -- ---- runs of stores and of loads. d is what a load past a list's end denotes
-
-  -- the first n of t, stored one by one into xs from place o on
-  unfoldable pub stored : A → List A → ℕ → List A → ℕ → List A
-  stored d xs o t zero = xs
-  stored d xs o t (suc i) = set (stored d xs o t i) (o + i) (getD t i d)
-
-  pub stored-length : (d : A) (xs : List A) (o : ℕ) (t : List A) (n : ℕ) → length (stored d xs o t n) ≡ length xs
-  unfolding stored
-  stored-length d xs o t zero = refl
-  stored-length d xs o t (suc n) = simp (length-set, stored-length d xs o t n)
-
-  -- a run of stores is a splice
-  pub stored-paste : (d : A) (xs : List A) (o : ℕ) (t : List A) (n : ℕ) → o + n ≤ length xs → n ≤ length t → stored d xs o t n ≡ paste xs o t n
-  unfolding stored
-  stored-paste d xs o t zero h k = paste-zero xs o t
-  stored-paste d xs o t (suc n) h k = rw (stored-paste d xs o t n (omega arith) (omega arith)) (paste-suc xs o t n d (omega arith) (omega arith))
-
-  -- m stores from s * m on replace the piece s
-  pub stored-patch : (d : A) (m s : ℕ) (ys xs : List A) → s * m + m ≤ length xs → length ys ≡ m → stored d xs (s * m) ys m ≡ patch m s ys xs
-  stored-patch d m s ys xs h l = stored-paste d xs (s * m) ys m h (omega arith) ∙ patch-paste m s ys xs l
-
-  -- n elements of xs from place o on, loaded one by one into the front of r
-  unfoldable pub loaded : A → List A → ℕ → List A → ℕ → List A
-  loaded d xs o r zero = r
-  loaded d xs o r (suc i) = set (loaded d xs o r i) i (getD xs (o + i) d)
-
-  pub loaded-length : (d : A) (xs : List A) (o : ℕ) (r : List A) (n : ℕ) → length (loaded d xs o r n) ≡ length r
-  unfolding loaded
-  loaded-length d xs o r zero = refl
-  loaded-length d xs o r (suc n) = simp (length-set, loaded-length d xs o r n)
-
-  pub loaded-take : (d : A) (xs : List A) (o : ℕ) (r : List A) (n : ℕ) → o + n ≤ length xs → n ≤ length r → take n (loaded d xs o r n) ≡ take n (drop o xs)
-  unfolding loaded
-  loaded-take d xs o r zero h k = refl
-  loaded-take d xs o r (suc n) h k =
-      let e : length (loaded d xs o r n) ≡ length r = loaded-length d xs o r n in
-      let b : n < length (drop o xs) = simp length-drop (omega arith) in
-      take-suc-set (loaded d xs o r n) n (getD xs (o + n) d) (omega arith)
-      ∙ (λ i. loaded-take d xs o r n (omega arith) (omega arith) i ++ sym (getD-drop o xs n d) i ∷ [])
-      ∙ sym (take-suc (drop o xs) n d b)
-
-  -- m loads from s * m on into a list of m are the piece s
-  pub loaded-piece : (d : A) (m s : ℕ) (r xs : List A) → s * m + m ≤ length xs → length r ≡ m → loaded d xs (s * m) r m ≡ piece m s xs
-  unfolding piece
-  loaded-piece d m s r xs h l =
-      let e : length (loaded d xs (s * m) r m) ≡ length r = loaded-length d xs (s * m) r m in
-      sym (take-all m (loaded d xs (s * m) r m) (omega arith)) ∙ loaded-take d xs (s * m) r m h (omega arith)
+  -- a list of n, pasted over whole
+  pub paste-whole : (n : ℕ) (r s : List A) → length r ≡ n → paste r 0 s n ≡ take n s
+  paste-whole n r s l = ap (λ (q : List A). take n s ++ q) (drop-of-length-le r {i = 0 + n} (omega arith)) ∙ append-nil (take n s)

@@ -34,11 +34,7 @@ qHigh = whole 40
 abbrev pub pointGainDb : Float
 pointGainDb = whole 18
 
--- NEUTRAL_PITCH
-abbrev pub neutralPitch : Float
-neutralPitch = decimal 684 10
-
--- NEUTRAL_HZ
+-- NEUTRAL_HZ: the frequency of NEUTRAL_PITCH (sweeps/specs/Sweeps.antt) at A4 = 440 Hz
 abbrev pub neutralHz : Float
 neutralHz = decimal 425012 1000
 
@@ -70,7 +66,7 @@ abbrev pub defaultPoint : Point
 defaultPoint = bypassAt (whole 1000)
 
 -- Point::clamped's closure `clamp`: a value in its range, or the default for a NaN
-unfoldable pub clampOr : Float → Float → Float → Float → Float
+unfoldable pub clampOr : (v lo hi or : Float) → Float
 clampOr v lo hi or = cond (isNan v) or (clampOf v lo hi)
 
 -- a NaN frequency, or zero's frequency, becomes 1,000, a NaN Q 1/√2, a NaN gain 0
@@ -96,21 +92,21 @@ unfoldable pub clamped : Point → Point
 clamped p = record { kind = clampedKind (p .kind); frequency = clampedFrequency (p .frequency); q = clampedQ (p .q) }
 
 -- Section, by its fields in order
-abbrev pub newSection : Float → Float → Float → Float → Float → Section
+abbrev pub newSection : (octaves damping high band low : Float) → Section
 newSection octaves damping high band low = record { octaves = octaves; damping = damping; high = high; band = band; low = low }
 
--- Point::section, its match: the damping and the weights of a kind, with the point's frequency f, octaves o and k = 1 / Q
-unfoldable pub mixOf : PointKind → Float → Float → Float → Section
-mixOf HighPass f o k = newSection o k one zero zero
-mixOf LowPass f o k = newSection o k zero zero one
-mixOf Bypass f o k = newSection o k one one one
-mixOf AllPass f o k = newSection o k one (neg one) one
-mixOf BandPass f o k = newSection o k zero one zero
-mixOf Notch f o k = newSection o k one zero one
-mixOf (Bell g) f o k =
+-- Point::section, its match: the section of a kind, from the point's frequency f, octaves o and k = 1 / Q
+unfoldable pub sectionOfKind : PointKind → (f o k : Float) → Section
+sectionOfKind HighPass f o k = newSection o k one zero zero
+sectionOfKind LowPass f o k = newSection o k zero zero one
+sectionOfKind Bypass f o k = newSection o k one one one
+sectionOfKind AllPass f o k = newSection o k one (neg one) one
+sectionOfKind BandPass f o k = newSection o k zero one zero
+sectionOfKind Notch f o k = newSection o k one zero one
+sectionOfKind (Bell g) f o k =
     let a = pow10Of g (whole 40) in
     newSection o (k ⊘ a) one (a ⊗ a) one
-mixOf (Free zf zq) f o k =
+sectionOfKind (Free zf zq) f o k =
     let r = zf ⊘ f in
     let scale = one ⊘ maxOf (one ⊘ (r ⊗ r)) one in
     newSection o k (scale ⊘ (r ⊗ r)) (scale ⊘ (zq ⊗ r ⊗ k)) scale
@@ -119,7 +115,7 @@ mixOf (Free zf zq) f o k =
 unfoldable pub sectionOf : Point → Section
 sectionOf self =
     let p = clamped self in
-    mixOf (p .kind) (p .frequency) (logOf (p .frequency ⊘ neutralHz)) (one ⊘ p .q)
+    sectionOfKind (p .kind) (p .frequency) (logOf (p .frequency ⊘ neutralHz)) (one ⊘ p .q)
 
 -- Section::values
 unfoldable pub values : Section → List Float

@@ -2,7 +2,8 @@
 ghost use mathlib.Core.Path.{_≡_};
 ghost use mathlib.Core.Bool.{Bool};
 ghost use mathlib.Core.List.{List};
-ghost use Rattle.points.specs.Points.{defaultPoint, clampOr, clampedKind, clamped, newSection, mixOf, sectionOf, values, bypassAt, isBypass, defaultState};
+ghost use Rattle.points.specs.Points.{defaultPoint, clampOr, clampedKind, clamped, newSection, sectionOfKind, sectionOf, values, bypassAt};
+ghost use Rattle.points.specs.Points.{isBypass, defaultState};
 
 // The lowest and highest point frequency, in hertz.
 const FREQUENCY_LOW: f32 = 8.0;
@@ -17,10 +18,7 @@ const Q_HIGH: f32 = 40.0;
 // A bell's gain range, in decibels.
 const POINT_GAIN_DB: f32 = 18.0;
 
-// The cutoff pitch at which points sit at their drawn frequencies.
-pub const NEUTRAL_PITCH: f32 = 68.4;
-
-// The frequency of NEUTRAL_PITCH at A4 = 440 Hz.
+// The frequency, at A4 = 440 Hz, of the cutoff pitch 68.4, at which points sit at their drawn frequencies.
 const NEUTRAL_HZ: f32 = 425.012;
 
 const FRAC_1_SQRT_2: f32 = 0.707106781186547524400844362104849039;
@@ -97,7 +95,7 @@ impl PointKind {
 
     // The section of a point of this kind, with its frequency, its octaves and k = 1 / Q.
     fn mix(self, frequency: f32, octaves: f32, k: f32) -> Section
-        ensures { λ r. ⌜ r ≡ mixOf self frequency octaves k ⌝ }
+        ensures { λ r. ⌜ r ≡ sectionOfKind self frequency octaves k ⌝ }
     {
         match self {
             PointKind::HighPass => Section::new(octaves, k, 1.0, 0.0, 0.0),

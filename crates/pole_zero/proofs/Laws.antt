@@ -14,7 +14,7 @@ use Rattle.parts.specs.Laws.{upto-count, length-patch}
 use Rattle.points.specs.Points.{clampOr, isBypass, defaultState}
 use Rattle.pole_zero.specs.declared.PoleZeroDesign.{PoleZeroDesign}
 use Rattle.pole_zero.specs.declared.Table.{Table}
-use Rattle.pole_zero.specs.PoleZero.{termsOf, bilinearOf, isBypassed, defaultDesign, gainOf, emptyTable, withPoint, tableOf}
+use Rattle.pole_zero.specs.PoleZero.{termsOf, bilinearOf, isBypassed, defaultDesign, designGain, emptyTable, withPoint, tableOf}
 
 -- a point has 20 terms
 pub length-bilinear : (design : PoleZeroDesign) (point : ℕ) → length (bilinearOf design point) ≡ 20
@@ -55,5 +55,5 @@ table-length design = sized design 8 (omega arith) .long
 
 -- the all-bypass table: no section in use, 160 zeros, and the gain of 0 dB
 pub bypass-table : tableOf defaultDesign ≡ record { active = 0; sections = replicate 160 zero; gain = pow10Of zero (whole 20) }
-unfolding tableOf withPoint isBypassed isBypass emptyTable gainOf defaultDesign defaultState clampOr clampOf isNan lt neg round
+unfolding tableOf withPoint isBypassed isBypass emptyTable designGain defaultDesign defaultState clampOr clampOf isNan lt neg round
 bypass-table = refl

@@ -6,7 +6,7 @@ use Prim.Native.Nat.{ℕ, _+_, _*_}
 use lib.Dec.{ltb}
 use lib.ListN.{getD, replicate}
 use lib.Ieee.{Float, nan, neg}
-use Rattle.lane.specs.Floats.{_⊕_, _⊖_, _⊗_, whole, zero, one}
+use Rattle.lane.specs.Floats.{_⊕_, _⊖_, _⊗_, _‼_, whole, zero, one}
 use Rattle.lane.specs.Lane.{clampOf, pow10Of}
 use Rattle.parts.specs.Parts.{upto, patch}
 use Rattle.points.specs.declared.PointKind.the-variants.{HighPass}
@@ -41,8 +41,8 @@ abbrev pub pointAt : PoleZeroDesign → ℕ → ℕ → Point
 pointAt d s point = getD (getD (d .states) s noState .points) point noPoint
 
 -- PoleZeroDesign::gain
-unfoldable pub gainOf : PoleZeroDesign → Float
-gainOf d = pow10Of (clampOr (d .«gain_db») (neg gainDb) gainDb zero) (whole 20)
+unfoldable pub designGain : PoleZeroDesign → Float
+designGain d = pow10Of (clampOr (d .«gain_db») (neg gainDb) gainDb zero) (whole 20)
 
 -- PoleZeroDesign::bilinear, one value of the four states: at (0, 0), then the X, Y and X × Y coefficients
 abbrev pub terms : Float → Float → Float → Float → List Float
@@ -67,7 +67,7 @@ bilinearOf d point =
 unfoldable pub blend : List Float → ℕ → Float → Float → Float
 blend t i x y =
     let at = 4 * i in
-    getD t at nan ⊕ x ⊗ getD t (at + 1) nan ⊕ y ⊗ getD t (at + 2) nan ⊕ x ⊗ y ⊗ getD t (at + 3) nan
+    t ‼ at ⊕ x ⊗ t ‼ (at + 1) ⊕ y ⊗ t ‼ (at + 2) ⊕ x ⊗ y ⊗ t ‼ (at + 3)
 
 unfoldable pub blended : List Float → Float → Float → Section
 blended t x y = newSection (blend t 0 x y) (blend t 1 x y) (blend t 2 x y) (blend t 3 x y) (blend t 4 x y)
@@ -100,7 +100,7 @@ isBypassed d point =
 
 -- Table::of before its loop
 unfoldable pub emptyTable : PoleZeroDesign → Table
-emptyTable design = record { active = 0; sections = replicate 160 zero; gain = gainOf design }
+emptyTable design = record { active = 0; sections = replicate 160 zero; gain = designGain design }
 
 -- Table::of, one turn: a point that is a bypass in all four states is skipped, any other is the next section
 unfoldable pub withPoint : PoleZeroDesign → ℕ → Table → Table

@@ -5,7 +5,8 @@ ghost use mathlib.Core.Bool.{Bool};
 ghost use mathlib.Core.List.{List};
 ghost use Prim.Native.Nat.{_+_, _*_, _<_, _≤_};
 ghost use Rattle.parts.specs.Parts.{patch};
-ghost use Rattle.pole_zero.specs.PoleZero.{defaultDesign, pointAt, gainOf, refusalOf, valuesOf, sectionRefusal, sectionValues, blend, blended, termsOf, bilinearOf, isBypassed, emptyTable, withPoint, tableOf};
+ghost use Rattle.pole_zero.specs.PoleZero.{defaultDesign, pointAt, designGain, refusalOf, valuesOf, sectionRefusal, sectionValues, blend};
+ghost use Rattle.pole_zero.specs.PoleZero.{blended, termsOf, bilinearOf, isBypassed, emptyTable, withPoint, tableOf};
 use points::Point;
 use points::Section;
 use points::State;
@@ -105,7 +106,7 @@ impl PoleZeroDesign {
 
     // The overall gain as a factor.
     pub fn gain(self) -> f32
-        ensures { λ r. ⌜ r ≡ gainOf self ⌝ }
+        ensures { λ r. ⌜ r ≡ designGain self ⌝ }
     {
         lane::pow10(points::clamp_or(self.gain_db, -GAIN_DB, GAIN_DB, 0.0), 20.0)
     }

@@ -1,3 +1,3 @@
--- To be read: Poles. Numbers has the sections' numbers as a list.
+-- To be read: Poles.
 pub mod Poles
 pub mod Numbers

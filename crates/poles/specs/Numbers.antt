@@ -1,3 +1,4 @@
+-- For the proofs: nothing here must be believed.
 -- The numbers of a table's sections at one pitch, X and Y, as a list: five a section, for the sections that run, then the pitch, X and Y.
 -- Definitions, and the law that the sections of that list are the table's. Assumes nothing.
 use mathlib.Core.Path.{_≡_, refl, ap, _∙_}
@@ -11,7 +12,7 @@ use lib.Ieee.{Float, nan}
 use borrow.Author.Tests.{lt-ltb}
 use Rattle.parts.specs.Parts.{tab}
 use Rattle.parts.specs.Laws.{upto-same, length-tab, tab-at}
-use Rattle.lane.specs.Floats.{zero, _⊗_}
+use Rattle.lane.specs.Floats.{zero, _⊗_, _‼_}
 use Rattle.filter.specs.declared.Pitch.{Pitch}
 use Rattle.filter.specs.declared.Ratio.{Ratio}
 use Rattle.filter.specs.Filter.{octavesOf}
@@ -36,11 +37,11 @@ poleNumbers sections active reference pitch x y =
 unfoldable pub sectionAt : List Float → ℕ → PoleSection
 sectionAt t j =
     record {
-      g = getD t (5 * j) nan;
-      k = getD t (5 * j + 1) nan;
-      high = getD t (5 * j + 2) nan;
-      band = getD t (5 * j + 3) nan;
-      low = getD t (5 * j + 4) nan;
+      g = t ‼ (5 * j);
+      k = t ‼ (5 * j + 1);
+      high = t ‼ (5 * j + 2);
+      band = t ‼ (5 * j + 3);
+      low = t ‼ (5 * j + 4);
     }
 
 -- ---- the sections that run are the table's
@@ -49,7 +50,8 @@ module _ (sections : List Float) (active : ℕ) (reference : Ratio) (pitch : Pit
   abbrev section : ℕ → PoleSection
   section = poleSection sections x y (octavesOf pitch) reference
 
-  at : (j i k : ℕ) → j < 8 → i < 5 → k ≡ 5 * j + i → getD (poleNumbers sections active reference pitch x y) k nan ≡ number (running (min active 8) section j) i
+  at : (j i k : ℕ) → j < 8 → i < 5 → k ≡ 5 * j + i
+      → poleNumbers sections active reference pitch x y ‼ k ≡ number (running (min active 8) section j) i
   unfolding poleNumbers
   at j i k hj hi e =
       let f : ℕ → Float = λ m. number (running (min active 8) section (m / 5)) (m % 5) in

@@ -2,13 +2,19 @@
 // blended at this sample's X and Y, then the overall gain.
 ghost use mathlib.Core.Path.{_≡_};
 ghost use Prim.Native.Nat.{_<_, min};
-ghost use Rattle.poles.specs.Poles.{blendOf, poleSection, poleMix, poleStage, poleStep};
+ghost use Rattle.poles.specs.Poles.{term, blendOf, poleSection, poleMix, poleStage, poleStep};
 ghost use Rattle.poles.specs.Numbers.{running, poleNumbers, sectionAt};
 ghost use Rattle.extended.specs.Extended.{ticked};
 use extended::Settings;
 use filter::Pitch;
 use filter::Ratio;
 use filter::Stage;
+
+// How many of a table's sections run in series, and the gain after them.
+pub struct Series {
+    pub active: u32,
+    pub gain: f32,
+}
 
 // One section's gain, damping and output weights.
 pub struct PoleSection {
@@ -17,6 +23,14 @@ pub struct PoleSection {
     pub high: f32,
     pub band: f32,
     pub low: f32,
+}
+
+// Where value i of section j begins in the table, each with its four terms.
+fn term(j: usize, i: usize) -> usize
+    requires { ⌜ (j < 8) × (i < 5) ⌝ }
+    ensures { λ r. ⌜ r ≡ term j i ⌝ }
+{
+    20 * j + 4 * i
 }
 
 fn blend(sections: &[f32; 160], at: usize, x: f32, y: f32) -> f32
@@ -38,13 +52,13 @@ fn pole_section(
     requires { ⌜ j < 8 ⌝ }
     ensures { λ r. ⌜ r ≡ poleSection (now (sections .entry)) x y transpose reference j ⌝ }
 {
-    let octaves = blend(sections, 20 * j, x, y);
+    let octaves = blend(sections, term(j, 0), x, y);
     PoleSection {
         g: filter::gain_at(filter::ratio_at(transpose + octaves, reference)),
-        k: blend(sections, 20 * j + 4, x, y),
-        high: blend(sections, 20 * j + 8, x, y),
-        band: blend(sections, 20 * j + 12, x, y),
-        low: blend(sections, 20 * j + 16, x, y),
+        k: blend(sections, term(j, 1), x, y),
+        high: blend(sections, term(j, 2), x, y),
+        band: blend(sections, term(j, 3), x, y),
+        low: blend(sections, term(j, 4), x, y),
     }
 }
 
@@ -184,21 +198,16 @@ fn section_at(numbers: &[f32; 43], j: usize) -> PoleSection
 }
 
 // State: 2j and 2j + 1 section j.
-pub fn pole_zero_step(
-    numbers: &[f32; 43],
-    active: u32,
-    gain: f32,
-    state: &mut [f32; 20],
-    x: f32,
-) -> f32
-    ensures { λ r. ⌜ ticked r (now (state .exit)) ≡ poleStep (sectionAt (now (numbers .entry))) active gain (now (state .entry)) x ⌝ }
+pub fn pole_zero_step(numbers: &[f32; 43], series: Series, state: &mut [f32; 20], x: f32) -> f32
+    ensures { λ r. ⌜ ticked r (now (state .exit)) ≡
+        poleStep (sectionAt (now (numbers .entry))) (series .active) (series .gain) (now (state .entry)) x ⌝ }
 {
-    let n = sections_run(active);
+    let n = sections_run(series.active);
     let mut u = x;
     let mut j: usize = 0;
     while j < n {
         u = pole_stage(section_at(numbers, j), state, u, j);
         j += 1;
     }
-    u * gain
+    u * series.gain
 }

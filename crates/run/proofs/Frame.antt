@@ -1,49 +1,53 @@
 -- A frame from its parts: what `smooth`, `steer`, `kernel_tick` and `mix` leave is what the definition's tick leaves.
 -- Assumes nothing.
 use mathlib.Core.Path.{_≡_, refl, sym, ap, _∙_}
-use Prim.Native.Nat.{ℕ}
 use mathlib.Core.Bool.{Bool, true, false}
 use mathlib.Core.List.{List, _++_}
-use lib.ListN.{length, getD, take, drop}
+use lib.ListN.{length}
 use lib.Seq.{take-at, drop-at}
-use lib.Ieee.{Float, nan}
-use Rattle.run.specs.declared.Constants.{Constants}
-use Rattle.run.specs.declared.Place.{Place}
-use Rattle.kernels.specs.Kernels.{Kernel, KernelLeaves}
-use Rattle.run.specs.Run.{smoothOf, offsetOf, steeringOf, steerOf, steeredX, steeredY, kernelTick, mixOf, tickWith, placed, TickLeaves}
+use lib.Ieee.{Float}
+use Rattle.lane.specs.Floats.{_‼_}
+use Rattle.lines.specs.declared.Ring.{Ring}
+use Rattle.filter.specs.Voice.{«MORPH_X», «MORPH_Y»}
+use Rattle.kernels.specs.Contracts.{KernelLeaves}
+use Rattle.voices.specs.Calls.{targetsWidth}
+use Rattle.run.specs.declared.Controls.{Controls}
+use Rattle.run.specs.declared.FrameInput.{FrameInput}
+use Rattle.run.specs.declared.Structure.{Structure}
+use Rattle.run.specs.Run.{smoothOf, offsetOf, steeredX, steeredY, controlsOf, mixOf, tickWith}
+use Rattle.run.specs.Contracts.{steeringOf, steerOf, kernelOn, tickOn, TickLeaves}
 
 -- steering as a mark and two numbers
-x-is : (params : List Float) (steered : Bool) (x y : Float) → steerOf (getD params 8 nan) steered x ≡ steeredX params (steeringOf steered x y)
+x-is : (params : List Float) (steered : Bool) (x y : Float) → steerOf (params ‼ «MORPH_X») steered x ≡ steeredX params (steeringOf steered x y)
 unfolding steerOf steeredX
 x-is params true x y = refl
 x-is params false x y = refl
 
-y-is : (params : List Float) (steered : Bool) (x y : Float) → steerOf (getD params 9 nan) steered y ≡ steeredY params (steeringOf steered x y)
+y-is : (params : List Float) (steered : Bool) (x y : Float) → steerOf (params ‼ «MORPH_Y») steered y ≡ steeredY params (steeringOf steered x y)
 unfolding steerOf steeredY
 y-is params true x y = refl
 y-is params false x y = refl
 
-module _ (code : ℕ) (k : Constants) (sections : List Float) (active : ℕ) (gain : Float) (len cursor slot : ℕ) (sign : Float)
-    (targets params state delay ring : List Float) (pitch input : Float) (steered : Bool) (x y : Float) where
-  pub frame : (next : List Float) (at : Place) (wet out : Float) (state' delay' : List Float)
-      → length params ≡ 10
-      → next ≡ smoothOf (k .alpha) targets params
-      → at .pitch ≡ offsetOf next sign pitch
-      → at .x ≡ steerOf (getD next 8 nan) steered x
-      → at .y ≡ steerOf (getD next 9 nan) steered y
-      → KernelLeaves len slot delay (kernelTick code k sections active gain len cursor next state at input ring) wet state' delay'
-      → out ≡ mixOf next input wet
-      → TickLeaves len slot delay (tickWith code k sections active gain len sign targets cursor pitch input (steeringOf steered x y) (params ++ state) ring) out (next ++ state') delay'
+module _ (m : Structure) (sections : List Float) (at : Ring) (f : FrameInput) (targets params state delay : List Float) where
+  pub frame : (next : List Float) (c : Controls) (wet out : Float) (state' delay' : List Float)
+      → length params ≡ targetsWidth
+      → next ≡ smoothOf (m .k .alpha) targets params
+      → c .pitch ≡ offsetOf next (f .sign) (f .pitch .0)
+      → c .x ≡ steerOf (next ‼ «MORPH_X») (f .steered) (f .x)
+      → c .y ≡ steerOf (next ‼ «MORPH_Y») (f .steered) (f .y)
+      → KernelLeaves (kernelOn m sections at next state c (f .input) delay) delay at wet state' delay'
+      → out ≡ mixOf next (f .input) wet
+      → TickLeaves (tickOn m sections at f targets (params ++ state) delay) delay at out (next ++ state') delay'
   unfolding tickWith
-  frame next at wet out state' delay' h smoothed p px py leaves mixed =
-      let place : at ≡ placed next sign pitch (steeringOf steered x y) = λ i. record {
+  frame next c wet out state' delay' h smoothed p px py leaves mixed =
+      let controls : c ≡ controlsOf next (f .sign) (f .pitch .0) (steeringOf (f .steered) (f .x) (f .y)) = λ i. record {
         pitch = p i;
-        x = (px ∙ x-is next steered x y) i;
-        y = (py ∙ y-is next steered x y) i;
+        x = (px ∙ x-is next (f .steered) (f .x) (f .y)) i;
+        y = (py ∙ y-is next (f .steered) (f .x) (f .y)) i;
       } in
-      rw (take-at params state 10 h, drop-at params state 10 h, ← smoothed, ← place)
+      rw (take-at params state targetsWidth h, drop-at params state targetsWidth h, ← smoothed, ← controls)
       (record {
-        sample = mixed ∙ ap (mixOf next input) (leaves .sample);
+        sample = mixed ∙ ap (mixOf next (f .input)) (leaves .sample);
         numbers = ap (λ (s : List Float). next ++ s) (leaves .states);
         cells = leaves .cells;
       })

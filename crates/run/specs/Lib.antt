@@ -1,2 +1,4 @@
+-- To be read: Run.
 pub mod Run
+pub mod Contracts
 pub mod Laws

@@ -1,35 +1,37 @@
 -- One frame of one slot: the body of Run::go's frame loop (document 01, One block goes through, points 1 to 5).
 -- Definitions only. Assumes nothing.
-use mathlib.Core.Path.{_≡_}
 use Prim.Native.Nat.{ℕ}
-use mathlib.Core.Bool.{Bool, true, false, cond}
-use mathlib.Core.Option.{Option, none, some}
-use mathlib.Core.List.{List, _++_}
+use mathlib.Core.Bool.{Bool, cond}
+use mathlib.Core.Option.{none, some}
+use mathlib.Core.List.{List, [], _∷_, _++_}
 use lib.Dec.{eqb}
-use lib.ListN.{getD, set, take, drop}
-use lib.Ieee.{Float, nan, neg}
-use Rattle.parts.specs.Parts.{tab, patch}
-use Rattle.lane.specs.Floats.{_⊕_, _⊖_, _⊗_, _⊘_, fma, decimal, whole, zero, one}
+use lib.ListN.{take, drop}
+use lib.Seq.{sets}
+use lib.Ieee.{Float, neg}
+use Rattle.parts.specs.Parts.{tab}
+use Rattle.lane.specs.Floats.{_⊕_, _⊖_, _⊗_, _⊘_, _‼_, fma, decimal, whole, zero, one}
 use Rattle.lane.specs.Lane.{expOf, pow10Of, softClip}
-use Rattle.filter.specs.declared.Pitch.{Pitch}
+use Rattle.filter.specs.Voice.{RES, DRIVE, «DRIVE_GAIN», «INV_KNEE», OFFSET, MIX, LEVEL, CHARACTER, «MORPH_X», «MORPH_Y»}
 use Rattle.extended.specs.declared.Settings.{Settings}
-use Rattle.extended.specs.Extended.{unitOf, smoothMark}
+use Rattle.extended.specs.Extended.{unitOr0, smoothMark}
+use Rattle.pole_zero.specs.declared.Table.{Table}
+use Rattle.kernels.specs.Kernels.{Kernel, kernelOf}
 use Rattle.voices.specs.Calls.{Tick, Steering, targetsWidth}
 use Rattle.run.specs.declared.Constants.{Constants}
-use Rattle.run.specs.declared.Place.{Place}
-use Rattle.kernels.specs.Kernels.{Kernel, kernelOf}
+use Rattle.run.specs.declared.Controls.{Controls}
 
 -- ---- worked out once a block. SMOOTHING_SECONDS = 0.002, CLEAN_DB = 24, SMOOTH_SECONDS = 0.1
 
-unfoldable pub cleanFactor : Float
-cleanFactor = pow10Of (neg (whole 24)) (whole 20)
+-- what clean drive drops the clipper's input by
+unfoldable pub cleanDrive : Float
+cleanDrive = pow10Of (neg (whole 24)) (whole 20)
 
 unfoldable pub constantsOf : (rate reference : Float) (clean : Bool) → Constants
 constantsOf rate reference clean =
     record {
       alpha = one ⊖ expOf (neg one ⊘ (decimal 2 1000 ⊗ rate));
-      «clip_in» = cond clean cleanFactor one;
-      «clip_out» = cond clean (one ⊘ cleanFactor) one;
+      «clip_in» = cond clean cleanDrive one;
+      «clip_out» = cond clean (one ⊘ cleanDrive) one;
       «smooth_samples» = decimal 1 10 ⊗ rate;
       «ref_over_rate» = record { 0 = reference ⊘ rate };
     }
@@ -41,33 +43,42 @@ signOf channels c = cond (eqb channels 1) zero (cond (eqb c 0) (neg one) one)
 -- ---- 1. smoothing, offset, steering and lag
 
 -- one smoothed number on its way to its target
-unfoldable pub glide : Float → Float → Float → Float
+unfoldable pub glide : (alpha target p : Float) → Float
 glide alpha target p = fma (target ⊖ p) alpha p
 
 -- the eight settings and the two morph numbers
-unfoldable pub smoothOf : Float → (targets params : List Float) → List Float
-smoothOf alpha targets params = tab (λ i. glide alpha (getD targets i nan) (getD params i nan)) targetsWidth
+unfoldable pub smoothOf : (alpha : Float) (targets params : List Float) → List Float
+smoothOf alpha targets params = tab (λ i. glide alpha (targets ‼ i) (params ‼ i)) targetsWidth
 
--- the pitch with the channel's offset (OFFSET = 4)
+-- the pitch with the channel's offset
 unfoldable pub offsetOf : (params : List Float) (sign pitch : Float) → Float
-offsetOf params sign pitch = fma (getD params 4 nan) sign pitch
+offsetOf params sign pitch = fma (params ‼ OFFSET) sign pitch
 
--- x and y, or that the frame is unsteered
-abbrev pub steeringOf : Bool → Float → Float → Steering
-steeringOf steered x y = cond steered (some (x, y)) none
-
--- a morph number, steered by an offset or not, held to 0 .. 1
-unfoldable pub steerOf : Float → Bool → Float → Float
-steerOf morph steered v = unitOf (cond steered (morph ⊕ v) morph)
-
--- MORPH_X and MORPH_Y stand at 8 and 9
+-- the morph numbers, steered or not, held to 0 .. 1
 unfoldable pub steeredX : (params : List Float) → Steering → Float
-steeredX params none = unitOf (getD params 8 nan)
-steeredX params (some s) = unitOf (getD params 8 nan ⊕ s .0)
+steeredX params none = unitOr0 (params ‼ «MORPH_X»)
+steeredX params (some s) = unitOr0 (params ‼ «MORPH_X» ⊕ s .0)
 
 unfoldable pub steeredY : (params : List Float) → Steering → Float
-steeredY params none = unitOf (getD params 9 nan)
-steeredY params (some s) = unitOf (getD params 9 nan ⊕ s .1)
+steeredY params none = unitOr0 (params ‼ «MORPH_Y»)
+steeredY params (some s) = unitOr0 (params ‼ «MORPH_Y» ⊕ s .1)
+
+-- the pitch, x and y before the lag
+abbrev pub controlsOf : (params : List Float) (sign pitch : Float) → Steering → Controls
+controlsOf params sign pitch st = record { pitch = offsetOf params sign pitch; x = steeredX params st; y = steeredY params st }
+
+-- where the lag keeps its state (extended.rs): whether it has started, then the smoothed pitch, X and Y
+abbrev pub «LAG_STARTED» : ℕ
+«LAG_STARTED» = 16
+
+abbrev pub «LAG_PITCH» : ℕ
+«LAG_PITCH» = 17
+
+abbrev pub «LAG_X» : ℕ
+«LAG_X» = 18
+
+abbrev pub «LAG_Y» : ℕ
+«LAG_Y» = 19
 
 -- the lag's share of the way: time constant SMOOTH_SECONDS × character², all of it at the first input
 unfoldable pub lagShare : (smoothSamples character started : Float) → Float
@@ -75,78 +86,70 @@ lagShare smoothSamples character started =
     let a = one ⊘ fma (character ⊗ character) smoothSamples one in
     one ⊖ started ⊗ (one ⊖ a)
 
--- the pitch, x and y that the kernel takes. LAG_STARTED = 16, LAG_PITCH = 17, LAG_X = 18, LAG_Y = 19
-unfoldable pub lagPlace : (smoothSamples character : Float) (state : List Float) → Place → Place
-lagPlace smoothSamples character state at =
-    let a = lagShare smoothSamples character (getD state 16 nan) in
+-- the pitch, x and y after it
+unfoldable pub lagged : (smoothSamples character : Float) (state : List Float) → Controls → Controls
+lagged smoothSamples character state at =
+    let a = lagShare smoothSamples character (state ‼ «LAG_STARTED») in
     record {
-      pitch = fma (at .pitch ⊖ getD state 17 nan) a (getD state 17 nan);
-      x = fma (at .x ⊖ getD state 18 nan) a (getD state 18 nan);
-      y = fma (at .y ⊖ getD state 19 nan) a (getD state 19 nan);
+      pitch = fma (at .pitch ⊖ state ‼ «LAG_PITCH») a (state ‼ «LAG_PITCH»);
+      x = fma (at .x ⊖ state ‼ «LAG_X») a (state ‼ «LAG_X»);
+      y = fma (at .y ⊖ state ‼ «LAG_Y») a (state ‼ «LAG_Y»);
     }
 
-unfoldable pub lagState : List Float → Place → List Float
-lagState state lagged = set (set (set (set state 17 (lagged .pitch)) 18 (lagged .x)) 19 (lagged .y)) 16 one
+unfoldable pub lagState : (state : List Float) → Controls → List Float
+lagState state after = sets state «LAG_STARTED» (one ∷ after .pitch ∷ after .x ∷ after .y ∷ [])
 
 -- SMOOTH: the lag runs; else everything stays
-unfoldable pub placeOf : (code : ℕ) (smoothSamples character : Float) (state : List Float) → Place → Place
-placeOf code smoothSamples character state at = cond (smoothMark code) (lagPlace smoothSamples character state at) at
+unfoldable pub controlsAfter : (code : ℕ) (smoothSamples character : Float) (state : List Float) → Controls → Controls
+controlsAfter code smoothSamples character state at = cond (smoothMark code) (lagged smoothSamples character state at) at
 
-unfoldable pub stateOf : (code : ℕ) (smoothSamples character : Float) (state : List Float) → Place → List Float
-stateOf code smoothSamples character state at =
-    cond (smoothMark code) (lagState state (lagPlace smoothSamples character state at)) state
+unfoldable pub stateAfter : (code : ℕ) (smoothSamples character : Float) (state : List Float) → Controls → List Float
+stateAfter code smoothSamples character state at =
+    cond (smoothMark code) (lagState state (lagged smoothSamples character state at)) state
 
 -- ---- 2. and 3. drive and soft_clip, then the kernel on one record of settings
 
--- DRIVE = 1, DRIVE_GAIN = 2
 unfoldable pub drivenOf : Constants → (params : List Float) (input : Float) → Float
 drivenOf k params input =
-    let v = input ⊗ getD params 2 nan in
-    let clipped = softClip (v ⊗ k .«clip_in») ⊗ k .«clip_out» in
-    fma (clipped ⊖ v) (getD params 1 nan) v
+    let u = input ⊗ params ‼ «DRIVE_GAIN» in
+    let clipped = softClip (u ⊗ k .«clip_in») ⊗ k .«clip_out» in
+    fma (clipped ⊖ u) (params ‼ DRIVE) u
 
--- RES = 0, INV_KNEE = 3, CHARACTER = 7
-unfoldable pub settingsOf : Constants → (params : List Float) → Place → Settings
+unfoldable pub settingsOf : Constants → (params : List Float) → Controls → Settings
 settingsOf k params at =
     record {
-      resonance = getD params 0 nan;
-      «inv_knee» = getD params 3 nan;
-      character = getD params 7 nan;
+      resonance = params ‼ RES;
+      «inv_knee» = params ‼ «INV_KNEE»;
+      character = params ‼ CHARACTER;
       x = at .x;
       y = at .y;
       «ref_over_rate» = k .«ref_over_rate»;
       «reference_ratio» = k .«ref_over_rate»;
     }
 
--- ---- 5. mix and level. MIX = 5, LEVEL = 6
+-- ---- 4. the ring is Comb2's alone: combs/specs/Combs.antt, over lines/specs/Lines.antt
+
+-- ---- 5. mix and level
 
 unfoldable pub mixOf : (params : List Float) (input wet : Float) → Float
-mixOf params input wet = fma wet (getD params 5 nan) (input ⊗ (one ⊖ getD params 5 nan)) ⊗ getD params 6 nan
+mixOf params input wet = fma wet (params ‼ MIX) (input ⊗ (one ⊖ params ‼ MIX)) ⊗ params ‼ LEVEL
 
--- ---- the frame, on the smoothed numbers and the states apart
+-- ---- the frame
 
-unfoldable pub kernelTick : (code : ℕ) → Constants → (sections : List Float) (active : ℕ) (gain : Float) (len cursor : ℕ) (params state : List Float) → Place → (input : Float) (ring : List Float) → Kernel
-kernelTick code k sections active gain len cursor params state at input ring =
+-- lag, drive and kernel, on the smoothed numbers and the states apart; `len` is the ring's length
+unfoldable pub kernelTick : (code : ℕ) → Constants → Table → (len cursor : ℕ) (params state : List Float) → Controls
+    → (input : Float) (ring : List Float) → Kernel
+kernelTick code k table len cursor params state at input ring =
     let smooth = k .«smooth_samples» in
-    let character = getD params 7 nan in
-    let lagged = placeOf code smooth character state at in
-    kernelOf code sections active gain len cursor (record { 0 = lagged .pitch }) (settingsOf k params lagged)
-    (stateOf code smooth character state at)
-    ring
+    let character = params ‼ CHARACTER in
+    let after = controlsAfter code smooth character state at in
+    kernelOf code table len cursor (record { 0 = after .pitch }) (settingsOf k params after) (stateAfter code smooth character state at) ring
     (drivenOf k params input)
 
-abbrev pub placed : (params : List Float) (sign pitch : Float) → Steering → Place
-placed params sign pitch st = record { pitch = offsetOf params sign pitch; x = steeredX params st; y = steeredY params st }
-
--- points 1 to 5. The record is the ten smoothed numbers and then the twenty states; `len` is the ring's length
-unfoldable pub tickWith : (code : ℕ) → Constants → (sections : List Float) (active : ℕ) (gain : Float) (len : ℕ) (sign : Float) (targets : List Float) (cursor : ℕ) (pitch input : Float) → Steering → (rec ring : List Float) → Tick
-tickWith code k sections active gain len sign targets cursor pitch input st rec ring =
+-- points 1 to 5. The record is the ten smoothed numbers and then the twenty states
+unfoldable pub tickWith : (code : ℕ) → Constants → Table → (len : ℕ) (sign : Float) (targets : List Float) (cursor : ℕ) (pitch input : Float)
+    → Steering → (rec ring : List Float) → Tick
+tickWith code k table len sign targets cursor pitch input st rec ring =
     let params = smoothOf (k .alpha) targets (take targetsWidth rec) in
-    let t = kernelTick code k sections active gain len cursor params (drop targetsWidth rec) (placed params sign pitch st) input ring in
+    let t = kernelTick code k table len cursor params (drop targetsWidth rec) (controlsOf params sign pitch st) input ring in
     record { rec = params ++ t .state; ring = t .ring; out = mixOf params input (t .out) }
-
--- what a tick t leaves: its sample, its record, and its slot's ring in the lent delay list, every other cell as it was
-pub record TickLeaves (len slot : ℕ) (before : List Float) (t : Tick) (out : Float) (rec delay : List Float) : Type 0 where
-  pub sample : out ≡ t .out
-  pub numbers : rec ≡ t .rec
-  pub cells : delay ≡ patch len slot (t .ring) before

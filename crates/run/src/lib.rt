@@ -1,16 +1,18 @@
 // One frame of one slot: the body of the frame loop of Run::go for the scalar lane, and the numbers worked out once a block.
 ghost use mathlib.Core.Path.{_≡_};
-ghost use mathlib.Core.Bool.{true};
 ghost use mathlib.Core.List.{_++_};
 ghost use lib.ListN.{length};
-ghost use Rattle.parts.specs.Parts.{piece, patch};
-ghost use Rattle.lines.specs.Lines.{isView};
-ghost use Rattle.kernels.specs.Kernels.{kernelOf, KernelLeaves};
-ghost use Rattle.kernels.specs.Tuning.{Kept, KeptSections};
-ghost use Rattle.run.specs.Run.{cleanFactor, constantsOf, signOf, smoothOf, offsetOf, steeringOf, steerOf, lagShare, lagPlace, lagState, placeOf, stateOf, drivenOf, settingsOf, kernelTick, mixOf, tickWith, TickLeaves};
+ghost use Rattle.lines.specs.Ring.{StandsIn};
+ghost use Rattle.kernels.specs.Contracts.{KernelLeaves};
+ghost use Rattle.voices.specs.Calls.{targetsWidth};
+ghost use Rattle.run.specs.Run.{cleanDrive, constantsOf, signOf, smoothOf, lagShare, lagged, lagState, controlsAfter, stateAfter};
+ghost use Rattle.run.specs.Run.{drivenOf, settingsOf, mixOf};
+ghost use Rattle.run.specs.Contracts.{steerOf, Keeps, kernelOn, tickOn, TickLeaves};
 use extended::Settings;
 use filter::Pitch;
 use filter::Ratio;
+use lines::Ring;
+use poles::Series;
 
 // The smoothing glide's time constant, in seconds.
 const SMOOTHING_SECONDS: f32 = 0.002;
@@ -21,6 +23,36 @@ const CLEAN_DB: f32 = 24.0;
 // Smooth's longest time constant, at character 1, in seconds.
 const SMOOTH_SECONDS: f32 = 0.1;
 
+// Where each smoothed number stands.
+const RES: usize = 0;
+
+const DRIVE: usize = 1;
+
+const DRIVE_GAIN: usize = 2;
+
+const INV_KNEE: usize = 3;
+
+const OFFSET: usize = 4;
+
+const MIX: usize = 5;
+
+const LEVEL: usize = 6;
+
+const CHARACTER: usize = 7;
+
+const MORPH_X: usize = 8;
+
+const MORPH_Y: usize = 9;
+
+// Where the cutoff smoothing keeps its state: whether it has started, then the smoothed pitch, X and Y.
+const LAG_STARTED: usize = 16;
+
+const LAG_PITCH: usize = 17;
+
+const LAG_X: usize = 18;
+
+const LAG_Y: usize = 19;
+
 // The numbers that are worked out once a block.
 pub struct Constants {
     pub alpha: f32,
@@ -30,8 +62,26 @@ pub struct Constants {
     pub ref_over_rate: Ratio,
 }
 
-fn clean_factor() -> f32
-    ensures { λ r. ⌜ r ≡ cleanFactor ⌝ }
+// What a block has of its setup for every tick: the structure's code, the table's active sections and gain, the constants.
+pub struct Structure {
+    pub code: u32,
+    pub active: u32,
+    pub gain: f32,
+    pub k: Constants,
+}
+
+// What a frame brings to a slot: the channel's sign, the voice's pitch, the input sample, and X and Y where it is steered.
+pub struct FrameInput {
+    pub sign: f32,
+    pub pitch: Pitch,
+    pub input: f32,
+    pub steered: bool,
+    pub x: f32,
+    pub y: f32,
+}
+
+fn clean_drive() -> f32
+    ensures { λ r. ⌜ r ≡ cleanDrive ⌝ }
 {
     lane::pow10(-CLEAN_DB, 20.0)
 }
@@ -40,7 +90,7 @@ pub fn constants_of(rate: f32, reference: f32, clean: bool) -> Constants
     ensures { λ r. ⌜ r ≡ constantsOf rate reference clean ⌝ }
 {
     let alpha = 1.0 - lane::exp(-1.0 / (SMOOTHING_SECONDS * rate));
-    let factor = clean_factor();
+    let factor = clean_drive();
     if clean {
         return Constants {
             alpha: alpha,
@@ -89,7 +139,7 @@ fn smooth(params: &mut [f32; 10], targets: &[f32; 10], alpha: f32)
 }
 
 // The pitch, X and Y that a frame's kernel takes.
-pub struct Place {
+pub struct Controls {
     pub pitch: f32,
     pub x: f32,
     pub y: f32,
@@ -111,54 +161,61 @@ fn lag_share(smooth_samples: f32, character: f32, started: f32) -> f32
     1.0 - started * (1.0 - a)
 }
 
-fn lag_place(state: &[f32; 20], smooth_samples: f32, character: f32, at: Place) -> Place
-    ensures { λ r. ⌜ r ≡ lagPlace «smooth_samples» character (now (state .entry)) at ⌝ }
+fn lagged(state: &[f32; 20], smooth_samples: f32, character: f32, at: Controls) -> Controls
+    ensures { λ r. ⌜ r ≡ lagged «smooth_samples» character (now (state .entry)) at ⌝ }
 {
-    let a = lag_share(smooth_samples, character, state[16]);
-    Place {
-        pitch: (at.pitch - state[17]) * a + state[17],
-        x: (at.x - state[18]) * a + state[18],
-        y: (at.y - state[19]) * a + state[19],
+    let a = lag_share(smooth_samples, character, state[LAG_STARTED]);
+    Controls {
+        pitch: (at.pitch - state[LAG_PITCH]) * a + state[LAG_PITCH],
+        x: (at.x - state[LAG_X]) * a + state[LAG_X],
+        y: (at.y - state[LAG_Y]) * a + state[LAG_Y],
     }
 }
 
-fn lag_state(state: &mut [f32; 20], lagged: Place)
-    ensures { λ _. ⌜ now (state .exit) ≡ lagState (now (state .entry)) lagged ⌝ }
+fn store_lag(state: &mut [f32; 20], after: Controls)
+    ensures { λ _. ⌜ now (state .exit) ≡ lagState (now (state .entry)) after ⌝ }
 {
-    state[17] = lagged.pitch;
-    state[18] = lagged.x;
-    state[19] = lagged.y;
-    state[16] = 1.0;
+    state[LAG_STARTED] = 1.0;
+    state[LAG_PITCH] = after.pitch;
+    state[LAG_X] = after.x;
+    state[LAG_Y] = after.y;
 }
 
 // A one-pole lag that starts at its first input, for the structures whose character is Smooth.
-fn lag(code: u32, state: &mut [f32; 20], smooth_samples: f32, character: f32, at: Place) -> Place
-    ensures { λ r. ⌜ (r ≡ placeOf code «smooth_samples» character (now (state .entry)) at) × (now (state .exit) ≡ stateOf code «smooth_samples» character (now (state .entry)) at) ⌝ }
+fn lag(
+    code: u32,
+    state: &mut [f32; 20],
+    smooth_samples: f32,
+    character: f32,
+    at: Controls,
+) -> Controls
+    ensures { λ r. ⌜ (r ≡ controlsAfter code «smooth_samples» character (now (state .entry)) at)
+        × (now (state .exit) ≡ stateAfter code «smooth_samples» character (now (state .entry)) at) ⌝ }
 {
     if !extended::is_smooth(code) {
         return at;
     }
-    let lagged = lag_place(state, smooth_samples, character, at);
-    lag_state(state, lagged);
-    lagged
+    let after = lagged(state, smooth_samples, character, at);
+    store_lag(state, after);
+    after
 }
 
 fn drive(k: Constants, params: &[f32; 10], input: f32) -> f32
     ensures { λ r. ⌜ r ≡ drivenOf k (now (params .entry)) input ⌝ }
 {
-    let u = input * params[2];
+    let u = input * params[DRIVE_GAIN];
     let clipped = lane::soft_clip(u * k.clip_in) * k.clip_out;
-    (clipped - u) * params[1] + u
+    (clipped - u) * params[DRIVE] + u
 }
 
-fn settings_of(k: Constants, params: &[f32; 10], at: Place) -> Settings
+fn settings_of(k: Constants, params: &[f32; 10], at: Controls) -> Settings
     ensures { λ r. ⌜ r ≡ settingsOf k (now (params .entry)) at ⌝ }
 {
     let reference = k.ref_over_rate;
     Settings {
-        resonance: params[0],
-        inv_knee: params[3],
-        character: params[7],
+        resonance: params[RES],
+        inv_knee: params[INV_KNEE],
+        character: params[CHARACTER],
         x: at.x,
         y: at.y,
         ref_over_rate: reference,
@@ -169,51 +226,52 @@ fn settings_of(k: Constants, params: &[f32; 10], at: Place) -> Settings
 fn mix(params: &[f32; 10], input: f32, wet: f32) -> f32
     ensures { λ r. ⌜ r ≡ mixOf (now (params .entry)) input wet ⌝ }
 {
-    (wet * params[5] + input * (1.0 - params[5])) * params[6]
+    (wet * params[MIX] + input * (1.0 - params[MIX])) * params[LEVEL]
 }
 
 // The lag, the drive and the kernel. `tuning` and `blended` hold the numbers kept from frame to frame.
 fn kernel_tick(
-    code: u32,
-    k: Constants,
+    m: Structure,
     sections: &[f32; 160],
-    active: u32,
-    gain: f32,
     roots: &[u8; 1024],
     tuning: &mut [f32; 10],
     blended: &mut [f32; 43],
     params: &[f32; 10],
     state: &mut [f32; 20],
     delay: &mut [f32],
-    len: usize,
-    cursor: usize,
-    slot: usize,
-    at: Place,
+    at: Ring,
+    controls: Controls,
     input: f32,
 ) -> f32
-    requires { ⌜ (isView len slot (length (now delay)) ≡ true) × (Kept code (k .«ref_over_rate») (now tuning)) × (KeptSections (now sections) active (k .«ref_over_rate») (now blended)) ⌝ }
-    ensures { λ r. ⌜ (KernelLeaves len slot (now (delay .entry)) (kernelTick code k (now (sections .entry)) active gain len cursor (now (params .entry)) (now (state .entry)) at input (piece len slot (now (delay .entry)))) r (now (state .exit)) (now (delay .exit))) × (Kept code (k .«ref_over_rate») (now (tuning .exit))) × (KeptSections (now (sections .entry)) active (k .«ref_over_rate») (now (blended .exit))) ⌝ }
+    requires { ⌜ (StandsIn (now delay) at) × (Keeps m (now sections) (now tuning) (now blended)) ⌝ }
+    ensures { λ r. ⌜ (KernelLeaves
+        (kernelOn m (now (sections .entry)) at (now (params .entry)) (now (state .entry)) controls input (now (delay .entry)))
+        (now (delay .entry)) at r (now (state .exit)) (now (delay .exit)))
+        × (Keeps m (now (sections .entry)) (now (tuning .exit)) (now (blended .exit))) ⌝ }
 {
-    let lagged = lag(code, state, k.smooth_samples, params[7], at);
+    let k = m.k;
+    let after = lag(m.code, state, k.smooth_samples, params[CHARACTER], controls);
     let driven = drive(k, params, input);
-    let p = settings_of(k, params, lagged);
+    let p = settings_of(k, params, after);
     let reference = k.ref_over_rate;
-    kernels::tuning::retune(code, tuning, Pitch(lagged.pitch), reference, params[7]);
-    kernels::tuning::blend_sections(code, blended, sections, active, Pitch(lagged.pitch), p);
+    let pitch = Pitch(after.pitch);
+    kernels::tuning::retune(m.code, tuning, pitch, reference, params[CHARACTER]);
+    kernels::tuning::blend_sections(m.code, blended, sections, m.active, pitch, p);
+    let series = Series {
+        active: m.active,
+        gain: m.gain,
+    };
     kernels::kernel(
-        code,
+        m.code,
         sections,
-        active,
-        gain,
+        series,
         roots,
         tuning,
         blended,
         state,
         delay,
-        len,
-        cursor,
-        slot,
-        Pitch(lagged.pitch),
+        at,
+        pitch,
         p,
         driven,
     )
@@ -221,54 +279,45 @@ fn kernel_tick(
 
 // One frame of one slot. `roots` is the root's table, `tuning` and `blended` hold the numbers kept from frame to frame.
 pub fn tick(
-    code: u32,
-    k: Constants,
+    m: Structure,
     sections: &[f32; 160],
-    active: u32,
-    gain: f32,
     roots: &[u8; 1024],
     tuning: &mut [f32; 10],
     blended: &mut [f32; 43],
-    sign: f32,
     targets: &[f32; 10],
     params: &mut [f32; 10],
     state: &mut [f32; 20],
     delay: &mut [f32],
-    len: usize,
-    cursor: usize,
-    slot: usize,
-    pitch: Pitch,
-    input: f32,
-    steered: bool,
-    x: f32,
-    y: f32,
+    at: Ring,
+    f: FrameInput,
 ) -> f32
-    requires { ⌜ (length (now params) ≡ 10) × (isView len slot (length (now delay)) ≡ true) × (Kept code (k .«ref_over_rate») (now tuning)) × (KeptSections (now sections) active (k .«ref_over_rate») (now blended)) ⌝ }
-    ensures { λ r. ⌜ (TickLeaves len slot (now (delay .entry)) (tickWith code k (now (sections .entry)) active gain len sign (now (targets .entry)) cursor (pitch .0) input (steeringOf steered x y) (now (params .entry) ++ now (state .entry)) (piece len slot (now (delay .entry)))) r (now (params .exit) ++ now (state .exit)) (now (delay .exit))) × (length (now (params .exit)) ≡ 10) × (Kept code (k .«ref_over_rate») (now (tuning .exit))) × (KeptSections (now (sections .entry)) active (k .«ref_over_rate») (now (blended .exit))) ⌝ }
+    requires { ⌜ (length (now params) ≡ targetsWidth) × (StandsIn (now delay) at) × (Keeps m (now sections) (now tuning) (now blended)) ⌝ }
+    ensures { λ r. ⌜ (TickLeaves
+        (tickOn m (now (sections .entry)) at f (now (targets .entry)) (now (params .entry) ++ now (state .entry)) (now (delay .entry)))
+        (now (delay .entry)) at r (now (params .exit) ++ now (state .exit)) (now (delay .exit)))
+        × (length (now (params .exit)) ≡ targetsWidth)
+        × (Keeps m (now (sections .entry)) (now (tuning .exit)) (now (blended .exit))) ⌝ }
 {
+    let k = m.k;
+    let pitch = f.pitch;
     smooth(params, targets, k.alpha);
-    let at = Place {
-        pitch: params[4] * sign + pitch.0,
-        x: steer(params[8], steered, x),
-        y: steer(params[9], steered, y),
+    let controls = Controls {
+        pitch: params[OFFSET] * f.sign + pitch.0,
+        x: steer(params[MORPH_X], f.steered, f.x),
+        y: steer(params[MORPH_Y], f.steered, f.y),
     };
     let wet = kernel_tick(
-        code,
-        k,
+        m,
         sections,
-        active,
-        gain,
         roots,
         tuning,
         blended,
         params,
         state,
         delay,
-        len,
-        cursor,
-        slot,
         at,
-        input,
+        controls,
+        f.input,
     );
-    mix(params, input, wet)
+    mix(params, f.input, wet)
 }

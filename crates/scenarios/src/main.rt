@@ -72,124 +72,19 @@ fn at_most(n: usize, most: usize) -> usize
     if n < most { n } else { most }
 }
 
-// The place of `name` in the list of names, from 0; 99 where it is none of them.
-fn place(names: &[u8], name: &[u8]) -> usize {
-    let mut at = 0;
-    let mut k = 0;
-    while at < names.len() {
-        let end = text::word(names, at).end;
-        if end < at {
-            return 99;
-        }
-        if end > names.len() {
-            return 99;
-        }
-        if check::same(&names[at..end], name) {
-            return k;
-        }
-        if end == names.len() {
-            return 99;
-        }
-        at = end + 1;
-        k += 1;
-    }
-    99
+// Whether no word follows the first k.
+fn ends_at(s: &[u8], k: usize) -> bool {
+    words::start(s, 0, k) == s.len()
 }
 
-// Where the first sixteen words start; answers how many there are.
-fn split(s: &[u8], starts: &mut [usize; 16]) -> usize {
-    let mut at = 0;
-    let mut n = 0;
-    while n < 16 {
-        if at >= s.len() {
-            return n;
-        }
-        starts[n] = at;
-        n += 1;
-        let end = text::word(s, at).end;
-        if end >= s.len() {
-            return n;
-        }
-        at = end + 1;
-    }
-    n
-}
-
-// Where word k starts, of n; the line's end where there is none.
-fn start_of(s: &[u8], starts: &[usize; 16], n: usize, k: usize) -> usize {
-    if k < n {
-        if k < 16 {
-            return starts[k];
-        }
-    }
-    s.len()
-}
-
-// Word k as bits; 2^32 where it is not eight hexadecimal digits.
-fn bits_at(s: &[u8], starts: &[usize; 16], k: usize) -> u64 {
-    if k < 16 {
-        let p = text::hexadecimal(s, text::word(s, starts[k]));
-        return match p {
-            text::Pattern::Bits(b) => b as u64,
-            text::Pattern::Malformed => 4294967296,
-        };
-    }
-    4294967296
-}
-
-// Word k as an f32; 0 where it is none.
-fn float_at(s: &[u8], starts: &[usize; 16], k: usize) -> f32 {
-    let b = bits_at(s, starts, k);
-    if b > 4294967295 {
-        return 0.0;
-    }
-    text::float_of(b as u32)
-}
-
-// Whether the words from `from` up to `to` are all f32.
-fn are_floats(s: &[u8], starts: &[usize; 16], from: usize, to: usize) -> bool {
-    let mut k = from;
-    while k < to {
-        if bits_at(s, starts, k) == 4294967296 {
-            return false;
-        }
-        k += 1;
-    }
-    true
-}
-
-// Word k as a decimal; `or` where it is none.
-fn decimal_at(s: &[u8], starts: &[usize; 16], k: usize, or: u64) -> u64 {
-    if k < 16 {
-        let d = text::decimal(s, text::word(s, starts[k]));
-        return match d {
-            text::Number::Value(v) => v,
-            text::Number::Refused => or,
-        };
-    }
-    or
-}
-
-// Word k as a number of the bank's; 0 where it is none.
-fn count_at(s: &[u8], starts: &[usize; 16], k: usize) -> usize {
-    decimal_at(s, starts, k, 0) as usize
+// Word k from `at` on as a number of the bank's; 0 where it is none.
+fn count_at(s: &[u8], at: usize, k: usize) -> usize {
+    words::decimal_at(s, at, k, 0) as usize
 }
 
 // The low 32 bits of word k.
-fn code_at(s: &[u8], starts: &[usize; 16], k: usize) -> u32 {
-    (decimal_at(s, starts, k, 0) % 4294967296) as u32
-}
-
-// Whether the words from `from` up to `to` are all decimals.
-fn are_decimals(s: &[u8], starts: &[usize; 16], from: usize, to: usize) -> bool {
-    let mut k = from;
-    while k < to {
-        if decimal_at(s, starts, k, 0) != decimal_at(s, starts, k, 1) {
-            return false;
-        }
-        k += 1;
-    }
-    true
+fn code_at(s: &[u8], k: usize) -> u32 {
+    (words::decimal_at(s, 0, k, 0) % 4294967296) as u32
 }
 
 // How often a number stands: once where its word ends at `at`, else as the decimal after a `*` says.
@@ -296,11 +191,11 @@ fn read_list(s: &[u8], from: usize, xs: &mut [f32]) -> ListRead {
 }
 
 // Reads the list from word 3 on into the numbers from `at` on; the list ends at `own`.
-fn poke(s: &[u8], starts: &[usize; 16], n: usize, own: usize, xs: &mut [f32]) -> ListRead {
-    let at = count_at(s, starts, 2);
+fn poke(s: &[u8], own: usize, xs: &mut [f32]) -> ListRead {
+    let at = count_at(s, 0, 2);
     if own <= xs.len() {
         if at <= own {
-            return read_list(s, start_of(s, starts, n, 3), &mut xs[at..own]);
+            return read_list(s, words::start(s, 0, 3), &mut xs[at..own]);
         }
     }
     ListRead {
@@ -309,56 +204,10 @@ fn poke(s: &[u8], starts: &[usize; 16], n: usize, own: usize, xs: &mut [f32]) ->
     }
 }
 
-// Writes a number's bits.
-fn put_value(out: &mut [u8], at: usize, x: f32) -> usize {
-    text::put_hex(out, at, text::bits_of(x))
-}
-
-// How many numbers from i on have the bits of the first.
-fn run_len(xs: &[f32], i: usize) -> usize {
-    let mut j = i;
-    while j < xs.len() {
-        if text::bits_of(xs[j]) != text::bits_of(xs[i]) {
-            return j - i;
-        }
-        j += 1;
-    }
-    j - i
-}
-
-// A blank, the bits, and the count where it is above 1.
-fn put_run(out: &mut [u8], at: usize, x: f32, n: usize) -> usize {
-    let p = text::put_byte(out, at, b' ');
-    let p = put_value(out, p, x);
-    if n == 1 {
-        return p;
-    }
-    let p = text::put_byte(out, p, b'*');
-    text::put_decimal(out, p, n as u64)
-}
-
-// Writes the numbers' bits in runs.
-fn put_runs(out: &mut [u8], at: usize, xs: &[f32]) -> usize {
-    let mut p = at;
-    let mut i = 0;
-    while i < xs.len() {
-        let n = run_len(xs, i);
-        if n == 0 {
-            return p;
-        }
-        if n > xs.len() - i {
-            return p;
-        }
-        p = put_run(out, p, xs[i], n);
-        i += n;
-    }
-    p
-}
-
 // A line of a list: its letter, and the numbers in runs.
 fn put_list(out: &mut [u8], at: usize, letter: u8, xs: &[f32]) -> usize {
     let p = text::put_byte(out, at, letter);
-    let p = put_runs(out, p, xs);
+    let p = words::put_runs(out, p, xs);
     text::put_byte(out, p, b'\n')
 }
 
@@ -467,57 +316,55 @@ fn fresh() -> State {
 }
 
 // `table` active gain nums
-fn table_at(s: &[u8], starts: &[usize; 16], n: usize) -> TableRead {
+fn table_at(s: &[u8]) -> TableRead {
     let mut sections = [0f32; 160];
-    let read = read_list(s, start_of(s, starts, n, 3), &mut sections);
+    let read = read_list(s, words::start(s, 0, 3), &mut sections);
     TableRead {
         table: Table {
-            active: code_at(s, starts, 1),
+            active: code_at(s, 1),
             sections: sections,
-            gain: float_at(s, starts, 2),
+            gain: words::float_at(s, 0, 2),
         },
-        ok: read.ok & (n >= 3) & are_decimals(s, starts, 1, 2) & are_floats(s, starts, 2, 3),
+        ok: read.ok & words::are_decimals(s, 0, 1, 1) & words::are_floats(s, 0, 2, 1),
     }
 }
 
 // The setup of words 1 to 6, over a table.
-fn setup_at(s: &[u8], starts: &[usize; 16], table: Table) -> Setup {
+fn setup_at(s: &[u8], table: Table) -> Setup {
     Setup {
-        code: code_at(s, starts, 1),
-        rate: float_at(s, starts, 2),
-        reference: float_at(s, starts, 3),
-        voices: count_at(s, starts, 4),
-        channels: count_at(s, starts, 5),
-        clean: count_at(s, starts, 6) != 0,
+        code: code_at(s, 1),
+        rate: words::float_at(s, 0, 2),
+        reference: words::float_at(s, 0, 3),
+        voices: count_at(s, 0, 4),
+        channels: count_at(s, 0, 5),
+        clean: count_at(s, 0, 6) != 0,
         table: table,
     }
 }
 
-fn is_setup(s: &[u8], starts: &[usize; 16]) -> bool {
-    are_decimals(s, starts, 1, 2) & are_floats(s, starts, 2, 4) & are_decimals(s, starts, 4, 7)
+fn is_setup(s: &[u8]) -> bool {
+    words::are_decimals(s, 0, 1, 1)
+        & words::are_floats(s, 0, 2, 2)
+        & words::are_decimals(s, 0, 4, 3)
 }
 
-// The three lengths from word k on.
-fn lengths_at(s: &[u8], starts: &[usize; 16], k: usize) -> Lengths
-    requires { ⌜ k < 16 ⌝ }
-{
+// The three lengths from the word at `at` on.
+fn lengths_at(s: &[u8], at: usize) -> Lengths {
     Lengths {
-        targets: count_at(s, starts, k),
-        records: count_at(s, starts, k + 1),
-        delay: count_at(s, starts, k + 2),
+        targets: count_at(s, at, 0),
+        records: count_at(s, at, 1),
+        delay: count_at(s, at, 2),
     }
 }
 
-fn are_lengths(s: &[u8], starts: &[usize; 16], k: usize) -> bool
-    requires { ⌜ k < 16 ⌝ }
-{
-    let l = lengths_at(s, starts, k);
-    are_decimals(s, starts, k, k + 3) & (l.targets <= 161) & (l.records <= 961) & (l.delay <= 65537)
+fn are_lengths(s: &[u8], at: usize) -> bool {
+    let l = lengths_at(s, at);
+    words::are_decimals(s, at, 0, 3) & (l.targets <= 161) & (l.records <= 961) & (l.delay <= 65537)
 }
 
-fn read_table(s: &[u8], starts: &[usize; 16], n: usize, st: State) -> StateRead {
+fn read_table(s: &[u8], st: State) -> StateRead {
     let mut next = st;
-    let read = table_at(s, starts, n);
+    let read = table_at(s);
     let mut setup = st.setup;
     let table = read.table;
     setup.table = table;
@@ -528,123 +375,111 @@ fn read_table(s: &[u8], starts: &[usize; 16], n: usize, st: State) -> StateRead 
     }
 }
 
-fn read_setup(s: &[u8], starts: &[usize; 16], n: usize, st: State) -> StateRead {
+fn read_setup(s: &[u8], st: State) -> StateRead {
     let mut next = st;
     let old = st.setup;
-    let setup = setup_at(s, starts, old.table);
+    let setup = setup_at(s, old.table);
     next.setup = setup;
     StateRead {
         state: next,
-        ok: (n == 7) & is_setup(s, starts),
+        ok: ends_at(s, 7) & is_setup(s),
     }
 }
 
 // `open` code rate reference voices channels clean T R D
-fn read_open(s: &[u8], starts: &[usize; 16], n: usize, st: State) -> StateRead {
+fn read_open(s: &[u8], st: State) -> StateRead {
     let mut next = st;
     let old = st.setup;
-    let setup = setup_at(s, starts, old.table);
-    let own = lengths_at(s, starts, 7);
+    let setup = setup_at(s, old.table);
+    let at = words::start(s, 0, 7);
+    let own = lengths_at(s, at);
     next.setup = setup;
     next.cursor = 0;
     next.own = own;
     next.lent = own;
     StateRead {
         state: next,
-        ok: (n == 10) & is_setup(s, starts) & are_lengths(s, starts, 7),
+        ok: ends_at(s, 10) & is_setup(s) & are_lengths(s, at),
     }
 }
 
-fn read_lend(s: &[u8], starts: &[usize; 16], n: usize, st: State) -> StateRead {
+fn read_lend(s: &[u8], st: State) -> StateRead {
     let mut next = st;
-    let lent = lengths_at(s, starts, 1);
+    let at = words::start(s, 0, 1);
+    let lent = lengths_at(s, at);
     next.lent = lent;
     StateRead {
         state: next,
-        ok: (n == 4) & are_lengths(s, starts, 1),
+        ok: ends_at(s, 4) & are_lengths(s, at),
     }
 }
 
-fn read_cursor(s: &[u8], starts: &[usize; 16], n: usize, st: State) -> StateRead {
+fn read_cursor(s: &[u8], st: State) -> StateRead {
     let mut next = st;
-    next.cursor = count_at(s, starts, 1);
+    next.cursor = count_at(s, 0, 1);
     StateRead {
         state: next,
-        ok: (n == 2) & are_decimals(s, starts, 1, 2),
+        ok: ends_at(s, 2) & words::are_decimals(s, 0, 1, 1),
     }
 }
 
 // `block` or `blockh` frames steered; four lines follow.
-fn read_block(s: &[u8], starts: &[usize; 16], n: usize, st: State, digest: bool) -> StateRead {
+fn read_block(s: &[u8], st: State, digest: bool) -> StateRead {
     let mut next = st;
-    next.frames = count_at(s, starts, 1);
-    next.steered = count_at(s, starts, 2) != 0;
+    next.frames = count_at(s, 0, 1);
+    next.steered = count_at(s, 0, 2) != 0;
     next.digest = digest;
     next.awaited = 4;
     StateRead {
         state: next,
-        ok: (n == 3) & are_decimals(s, starts, 1, 3),
+        ok: ends_at(s, 3) & words::are_decimals(s, 0, 1, 2),
     }
 }
 
 // Whether a line that changes no state can be read.
-fn is_read(word: usize, s: &[u8], starts: &[usize; 16], n: usize) -> bool {
+fn is_read(word: usize, s: &[u8]) -> bool {
     match word {
-        6 => (n > 2) & are_decimals(s, starts, 2, 3),
-        7 => (n == 11) & are_decimals(s, starts, 1, 2) & are_floats(s, starts, 2, 11),
-        8 => (n == 2) & are_decimals(s, starts, 1, 2),
+        6 => words::are_decimals(s, 0, 2, 1),
+        7 => ends_at(s, 11) & words::are_decimals(s, 0, 1, 1) & words::are_floats(s, 0, 2, 9),
+        8 => ends_at(s, 2) & words::are_decimals(s, 0, 1, 1),
         _ => word <= 15,
     }
 }
 
 // What a line says beside the lists' numbers. `word` counts the names in `command_at`.
-fn read_state(word: usize, s: &[u8], starts: &[usize; 16], n: usize, st: State) -> StateRead {
+fn read_state(word: usize, s: &[u8], st: State) -> StateRead {
     match word {
         0 => StateRead {
             state: fresh(),
             ok: true,
         },
-        1 => read_table(s, starts, n, st),
-        2 => read_open(s, starts, n, st),
-        3 => read_setup(s, starts, n, st),
-        4 => read_lend(s, starts, n, st),
-        5 => read_cursor(s, starts, n, st),
-        9 => read_block(s, starts, n, st, false),
-        10 => read_block(s, starts, n, st, true),
+        1 => read_table(s, st),
+        2 => read_open(s, st),
+        3 => read_setup(s, st),
+        4 => read_lend(s, st),
+        5 => read_cursor(s, st),
+        9 => read_block(s, st, false),
+        10 => read_block(s, st, true),
         _ => StateRead {
             state: st,
-            ok: is_read(word, s, starts, n),
+            ok: is_read(word, s),
         },
     }
-}
-
-// The place in `names` of the word at `at`; 99 where it is none of them.
-fn name_at(names: &[u8], s: &[u8], at: usize) -> usize {
-    let end = text::word(s, at).end;
-    if end < at {
-        return 99;
-    }
-    if end > s.len() {
-        return 99;
-    }
-    place(names, &s[at..end])
 }
 
 // `poke` t|r|d at nums
 fn poke_list(
     s: &[u8],
-    starts: &[usize; 16],
-    n: usize,
     own: Lengths,
     targets: &mut [f32; 161],
     records: &mut [f32; 961],
     delay: &mut [f32; 65537],
 ) -> ListRead {
-    let list = name_at(b"t r d", s, start_of(s, starts, n, 1));
+    let list = words::name_at(b"t r d", 3, s, words::start(s, 0, 1));
     match list {
-        0 => poke(s, starts, n, own.targets, targets),
-        1 => poke(s, starts, n, own.records, records),
-        2 => poke(s, starts, n, own.delay, delay),
+        0 => poke(s, own.targets, targets),
+        1 => poke(s, own.records, records),
+        2 => poke(s, own.delay, delay),
         _ => ListRead {
             count: 0,
             ok: false,
@@ -656,8 +491,6 @@ fn poke_list(
 fn read_numbers(
     word: usize,
     s: &[u8],
-    starts: &[usize; 16],
-    n: usize,
     own: Lengths,
     targets: &mut [f32; 161],
     records: &mut [f32; 961],
@@ -667,9 +500,9 @@ fn read_numbers(
     y: &mut [f32; 8192],
     audio: &mut [f32; 16384],
 ) -> ListRead {
-    let from = start_of(s, starts, n, 1);
+    let from = words::start(s, 0, 1);
     match word {
-        6 => poke_list(s, starts, n, own, targets, records, delay),
+        6 => poke_list(s, own, targets, records, delay),
         12 => read_list(s, from, pitch),
         13 => read_list(s, from, x),
         14 => read_list(s, from, y),
@@ -758,17 +591,17 @@ fn open_call(
 }
 
 // The nine settings from word 2 on.
-fn params_at(s: &[u8], starts: &[usize; 16]) -> VoiceParams {
+fn params_at(s: &[u8]) -> VoiceParams {
     VoiceParams {
-        resonance: float_at(s, starts, 2),
-        drive: float_at(s, starts, 3),
-        saturation: float_at(s, starts, 4),
-        character: float_at(s, starts, 5),
-        stereo_offset: float_at(s, starts, 6),
-        mix: float_at(s, starts, 7),
-        level: float_at(s, starts, 8),
-        morph_x: float_at(s, starts, 9),
-        morph_y: float_at(s, starts, 10),
+        resonance: words::float_at(s, 0, 2),
+        drive: words::float_at(s, 0, 3),
+        saturation: words::float_at(s, 0, 4),
+        character: words::float_at(s, 0, 5),
+        stereo_offset: words::float_at(s, 0, 6),
+        mix: words::float_at(s, 0, 7),
+        level: words::float_at(s, 0, 8),
+        morph_x: words::float_at(s, 0, 9),
+        morph_y: words::float_at(s, 0, 10),
     }
 }
 
@@ -782,24 +615,11 @@ fn put_voice(out: &mut [u8], at: usize, voice: usize, targets: &[f32]) -> usize 
 }
 
 // `set` voice and nine floats; where it is accepted the voice's targets follow the answer.
-fn set_call(
-    s: &[u8],
-    starts: &[usize; 16],
-    st: State,
-    targets: &mut [f32],
-    out: &mut [u8],
-    at: usize,
-) -> usize {
-    let voice = count_at(s, starts, 1);
+fn set_call(s: &[u8], st: State, targets: &mut [f32], out: &mut [u8], at: usize) -> usize {
+    let voice = count_at(s, 0, 1);
     let lent = st.lent;
     let t = at_most(lent.targets, targets.len());
-    let a = bank::set(
-        st.setup,
-        st.cursor,
-        &mut targets[0..t],
-        voice,
-        params_at(s, starts),
-    );
+    let a = bank::set(st.setup, st.cursor, &mut targets[0..t], voice, params_at(s));
     let p = put_answer(out, at, a);
     if is_accepted(a) {
         return put_voice(out, p, voice, targets);
@@ -915,7 +735,6 @@ fn state_after(word: usize, st: State) -> State {
 fn call(
     word: usize,
     s: &[u8],
-    starts: &[usize; 16],
     st: State,
     targets: &mut [f32],
     records: &mut [f32],
@@ -925,8 +744,8 @@ fn call(
 ) -> usize {
     match word {
         2 => open_call(st, targets, records, delay, out, at),
-        7 => set_call(s, starts, st, targets, out, at),
-        8 => start_call(st, count_at(s, starts, 1), targets, records, delay, out, at),
+        7 => set_call(s, st, targets, out, at),
+        8 => start_call(st, count_at(s, 0, 1), targets, records, delay, out, at),
         11 => dump(st.own, targets, records, delay, out, at),
         _ => at,
     }
@@ -955,7 +774,6 @@ fn block_line(
 fn respond(
     word: usize,
     s: &[u8],
-    starts: &[usize; 16],
     st: State,
     targets: &mut [f32; 161],
     records: &mut [f32; 961],
@@ -972,7 +790,7 @@ fn respond(
     }
     Step {
         state: state_after(word, st),
-        at: call(word, s, starts, st, targets, records, delay, out, at),
+        at: call(word, s, st, targets, records, delay, out, at),
     }
 }
 
@@ -986,10 +804,11 @@ fn put_unread(out: &mut [u8]) -> usize {
     text::put_bytes(out, 0, b"?\n")
 }
 
-// The place of the line's first word among the commands.
+// The place of the line's first word among the commands; 16 where it is none of them.
 fn command_at(s: &[u8]) -> usize {
-    name_at(
+    words::name_at(
         b"scenario table open setup lend cursor poke set start block blockh dump p x y a",
+        16,
         s,
         0,
     )
@@ -1008,30 +827,14 @@ fn command(
     audio: &mut [f32; 16384],
     out: &mut [u8; 524288],
 ) -> Step {
-    let mut starts = [0usize; 16];
-    let n = split(s, &mut starts);
     let word = command_at(s);
-    let read = read_state(word, s, &starts, n, st);
-    let numbers = read_numbers(
-        word,
-        s,
-        &starts,
-        n,
-        st.own,
-        targets,
-        records,
-        delay,
-        pitch,
-        x,
-        y,
-        audio,
-    );
+    let read = read_state(word, s, st);
+    let numbers = read_numbers(word, s, st.own, targets, records, delay, pitch, x, y, audio);
     if read.ok & numbers.ok & in_order(word, st.awaited) {
         let p = put_line(out, s);
         return respond(
             word,
             s,
-            &starts,
             counted(word, read.state, numbers.count),
             targets,
             records,
@@ -1064,7 +867,7 @@ fn is_command(s: &[u8]) -> bool {
     if s[0] == b'#' {
         return false;
     }
-    name_at(b"= o h t r d", s, 0) >= 6
+    words::name_at(b"= o h t r d", 6, s, 0) == 6
 }
 
 // A comment, and nothing of an answer.

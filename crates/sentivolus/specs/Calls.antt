@@ -5,13 +5,17 @@ use Prim.Native.Nat.{ℕ}
 use mathlib.Core.Bool.{Bool}
 use mathlib.Core.List.{List, [], _∷_}
 use lib.Ieee.{Float}
-use Rattle.voices.specs.Calls.{Answer, refusedCall, kept, rendered, Run}
+use Rattle.filter.specs.declared.VoiceParams.{VoiceParams}
+use Rattle.voices.specs.Calls.{Bank, Block, Call, callBlock, Answer, refusedCall, kept, rendered, Run, call, openVerdict}
 use Rattle.checks.specs.declared.Setup.{Setup}
+use Rattle.checks.specs.Setup.{engine}
+use Rattle.bank.specs.Bank.{before, openBy}
 use Rattle.bank.specs.declared.Answer.{Answer as CodeAnswer}
 use Rattle.bank.specs.declared.Answer.the-variants.{Refused, Kept, Rendered}
 
 -- a setup from the numbers that a caller in C hands over
-abbrev pub setupOf : (code : ℕ) (rate reference : Float) (voices channels : ℕ) (clean : Bool) (active : ℕ) (sections : List Float) (gain : Float) → Setup
+abbrev pub setupOf : (code : ℕ) (rate reference : Float) (voices channels : ℕ) (clean : Bool)
+    (active : ℕ) (sections : List Float) (gain : Float) → Setup
 setupOf code rate reference voices channels clean active sections gain =
     record {
       code = code;
@@ -21,6 +25,21 @@ setupOf code rate reference voices channels clean active sections gain =
       channels = channels;
       clean = clean;
       table = record { active = active; sections = sections; gain = gain };
+    }
+
+-- a voice's settings, in the order of VoiceParams
+abbrev pub paramsOf : (resonance drive saturation character stereoOffset mix level morphX morphY : Float) → VoiceParams
+paramsOf resonance drive saturation character stereoOffset mix level morphX morphY =
+    record {
+      resonance = resonance;
+      drive = drive;
+      saturation = saturation;
+      character = character;
+      «stereo_offset» = stereoOffset;
+      mix = mix;
+      level = level;
+      «morph_x» = morphX;
+      «morph_y» = morphY;
     }
 
 -- the answer's number: a refusal's, or 0
@@ -63,8 +82,22 @@ pub record ListsLeft (R : Run) (number : ℕ) (targets records delay : List Floa
   pub records' : records ≡ R .bank .records
   pub delay' : delay ≡ R .bank .delay
 
-pub record BlockLeft (R : Run) (before : List Float) (given : ℕ) (number cursor frames : ℕ) (targets records delay audio : List Float) : Type 0 where
+-- `given` is the number of frames that stood there
+pub record BlockLeft (R : Run) (before : List Float) (given number cursor frames : ℕ) (targets records delay audio : List Float) : Type 0 where
   pub lists : ListsLeft R number targets records delay
   pub cursor' : cursor ≡ R .bank .cursor
   pub frames' : frames ≡ framesIn (R .log) given
   pub audio' : audio ≡ audioIn (R .log) before
+
+-- open, by `openBy` on the verdict
+abbrev pub OpenLeaves : Setup → Bank → (number : ℕ) (targets records delay : List Float) → Type 0
+OpenLeaves s b n tg rs ds = ListsLeft (openBy (openVerdict (engine s) (s .voices) b) s b) n tg rs ds
+
+-- set and start
+abbrev pub CallLeaves : Setup → Call VoiceParams → Bank → (number : ℕ) (targets records delay : List Float) → Type 0
+CallLeaves s x b n tg rs ds = ListsLeft (call (engine s) (s .voices) x (before b)) n tg rs ds
+
+-- block
+abbrev pub BlockLeaves : Setup → Block → Bank → (given number cursor frames : ℕ) (records delay audio : List Float) → Type 0
+BlockLeaves s q b given n cur f rs ds audio =
+    BlockLeft (call (engine s) (s .voices) (callBlock q) (before b)) (q .audio) given n cur f (b .targets) rs ds audio

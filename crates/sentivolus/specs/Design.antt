@@ -1,11 +1,13 @@
 -- A design as flat numbers, for callers in C: 32 kind numbers and 128 floats, state by state, point by point.
 -- Definitions only. Assumes nothing.
+use mathlib.Core.Path.{_≡_}
 use Prim.Native.Nat.{ℕ, _+_, _*_}
 use mathlib.Core.Bool.{cond}
 use mathlib.Core.List.{List, [], _∷_, _++_}
 use lib.Dec.{eqb}
 use lib.ListN.{getD}
-use lib.Ieee.{Float, nan}
+use lib.Ieee.{Float}
+use Rattle.lane.specs.Floats.{_‼_}
 use Rattle.parts.specs.Parts.{tab}
 use Rattle.filter.specs.declared.Stage.{Stage}
 use Rattle.points.specs.declared.PointKind.{PointKind}
@@ -13,6 +15,7 @@ use Rattle.points.specs.declared.PointKind.the-variants.{HighPass, LowPass, Byp
 use Rattle.points.specs.declared.Point.{Point}
 use Rattle.points.specs.declared.State.{State}
 use Rattle.pole_zero.specs.declared.PoleZeroDesign.{PoleZeroDesign}
+use Rattle.pole_zero.specs.declared.Table.{Table}
 use Rattle.pole_zero.specs.PoleZero.{sectionRefusal, sectionValues}
 
 -- the kind of a number, in the editor's order: 0 HighPass, 1 LowPass, 2 Bypass, 3 AllPass, 4 BandPass, 5 Notch, 6 Bell (a its gain
@@ -31,9 +34,9 @@ kindOf kind a b =
 unfoldable pub pointOf : List ℕ → List Float → ℕ → Point
 pointOf kinds numbers i =
     record {
-      kind = kindOf (getD kinds i 0) (getD numbers (4 * i + 2) nan) (getD numbers (4 * i + 3) nan);
-      frequency = getD numbers (4 * i) nan;
-      q = getD numbers (4 * i + 1) nan;
+      kind = kindOf (getD kinds i 0) (numbers ‼ (4 * i + 2)) (numbers ‼ (4 * i + 3));
+      frequency = numbers ‼ (4 * i);
+      q = numbers ‼ (4 * i + 1);
     }
 
 unfoldable pub stateOf : List ℕ → List Float → ℕ → State
@@ -49,3 +52,16 @@ stageNumbers s = s .band ∷ s .low ∷ s .ic1 ∷ s .ic2 ∷ []
 -- what section leaves in the caller's five numbers: the section's, or what they were where the point is refused
 unfoldable pub sectionLeft : PoleZeroDesign → ℕ → Float → Float → List Float → List Float
 sectionLeft design point x y before = cond (eqb (sectionRefusal point) 0) (sectionValues design point x y) before
+
+-- ---- what the exported calls promise
+
+-- a table's numbers
+pub record TableLeft (t : Table) (active : ℕ) (sections : List Float) (gain : Float) : Type 0 where
+  pub active' : active ≡ t .active
+  pub sections' : sections ≡ t .sections
+  pub gain' : gain ≡ t .gain
+
+-- the refusal's number or 0, and the five numbers
+pub record SectionLeft (design : PoleZeroDesign) (point : ℕ) (x y : Float) (before : List Float) (number : ℕ) (out : List Float) : Type 0 where
+  pub answer : number ≡ sectionRefusal point
+  pub numbers : out ≡ sectionLeft design point x y before

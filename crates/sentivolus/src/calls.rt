@@ -1,11 +1,10 @@
 // The bank's calls. Each answers 0, or the number of a refusal, which changes no list and no number behind a pointer.
 ghost use mathlib.Core.Path.{_≡_};
 ghost use mathlib.Core.List.{[]};
-ghost use Rattle.voices.specs.Calls.{callSet, callStart, callBlock, call, openVerdict};
-ghost use Rattle.checks.specs.Setup.{engine};
+ghost use Rattle.voices.specs.Calls.{callSet, callStart};
 ghost use Rattle.checks.specs.Checks.{bankOf, blockFrom};
-ghost use Rattle.bank.specs.Bank.{before, cursorOf, openBy};
-ghost use Rattle.sentivolus.specs.Calls.{setupOf, numberOf, framesOr, numberIn, ListsLeft, BlockLeft};
+ghost use Rattle.bank.specs.Bank.{cursorOf};
+ghost use Rattle.sentivolus.specs.Calls.{setupOf, paramsOf, numberOf, framesOr, OpenLeaves, CallLeaves, BlockLeaves};
 use bank::Answer;
 use checks::Setup;
 use filter::VoiceParams;
@@ -87,7 +86,9 @@ pub extern "C" fn sentivolus_open(
     records: &mut [f32],
     delay: &mut [f32],
 ) -> u32
-    ensures { λ r. ⌜ ListsLeft (openBy (openVerdict (engine (setupOf code rate reference voices channels clean active (now (sections .entry)) gain)) voices (bankOf (now (targets .entry)) (now (records .entry)) (now (delay .entry)) 0)) (setupOf code rate reference voices channels clean active (now (sections .entry)) gain) (bankOf (now (targets .entry)) (now (records .entry)) (now (delay .entry)) 0)) r (now (targets .exit)) (now (records .exit)) (now (delay .exit)) ⌝ }
+    ensures { λ r. ⌜ OpenLeaves (setupOf code rate reference voices channels clean active (now (sections .entry)) gain)
+        (bankOf (now (targets .entry)) (now (records .entry)) (now (delay .entry)) 0)
+        r (now (targets .exit)) (now (records .exit)) (now (delay .exit)) ⌝ }
 {
     let s = setup_of(
         code,
@@ -129,7 +130,10 @@ pub extern "C" fn sentivolus_set(
     morph_x: f32,
     morph_y: f32,
 ) -> u32
-    ensures { λ r. ⌜ ListsLeft (call (engine (setupOf code rate reference voices channels clean active (now (sections .entry)) gain)) voices (callSet voice record { resonance = resonance; drive = drive; saturation = saturation; character = character; «stereo_offset» = «stereo_offset»; mix = mix; level = level; «morph_x» = «morph_x»; «morph_y» = «morph_y» }) (before (bankOf (now (targets .entry)) [] [] 0))) r (now (targets .exit)) [] [] ⌝ }
+    ensures { λ r. ⌜ CallLeaves (setupOf code rate reference voices channels clean active (now (sections .entry)) gain)
+        (callSet voice (paramsOf resonance drive saturation character «stereo_offset» mix level «morph_x» «morph_y»))
+        (bankOf (now (targets .entry)) [] [] 0)
+        r (now (targets .exit)) [] [] ⌝ }
 {
     let s = setup_of(
         code,
@@ -173,7 +177,10 @@ pub extern "C" fn sentivolus_start(
     delay: &mut [f32],
     voice: usize,
 ) -> u32
-    ensures { λ r. ⌜ ListsLeft (call (engine (setupOf code rate reference voices channels clean active (now (sections .entry)) gain)) voices (callStart voice) (before (bankOf (now (targets .entry)) (now (records .entry)) (now (delay .entry)) 0))) r (now (targets .entry)) (now (records .exit)) (now (delay .exit)) ⌝ }
+    ensures { λ r. ⌜ CallLeaves (setupOf code rate reference voices channels clean active (now (sections .entry)) gain)
+        (callStart voice)
+        (bankOf (now (targets .entry)) (now (records .entry)) (now (delay .entry)) 0)
+        r (now (targets .entry)) (now (records .exit)) (now (delay .exit)) ⌝ }
 {
     let s = setup_of(
         code,
@@ -213,7 +220,10 @@ pub extern "C" fn sentivolus_block(
     audio: &mut [f32],
     rendered: &mut usize,
 ) -> u32
-    ensures { λ r. ⌜ BlockLeft (call (engine (setupOf code rate reference voices channels clean active (now (sections .entry)) gain)) voices (callBlock (blockFrom frames (now (pitch .entry)) steered (now (x .entry)) (now (y .entry)) (now (audio .entry)))) (before (bankOf (now (targets .entry)) (now (records .entry)) (now (delay .entry)) (now (cursor .entry))))) (now (audio .entry)) (now (rendered .entry)) r (now (cursor .exit)) (now (rendered .exit)) (now (targets .entry)) (now (records .exit)) (now (delay .exit)) (now (audio .exit)) ⌝ }
+    ensures { λ r. ⌜ BlockLeaves (setupOf code rate reference voices channels clean active (now (sections .entry)) gain)
+        (blockFrom frames (now (pitch .entry)) steered (now (x .entry)) (now (y .entry)) (now (audio .entry)))
+        (bankOf (now (targets .entry)) (now (records .entry)) (now (delay .entry)) (now (cursor .entry)))
+        (now (rendered .entry)) r (now (cursor .exit)) (now (rendered .exit)) (now (records .exit)) (now (delay .exit)) (now (audio .exit)) ⌝ }
 {
     let s = setup_of(
         code,

@@ -2,8 +2,8 @@
 ghost use mathlib.Core.Path.{_≡_};
 ghost use Prim.Native.Nat.{_<_};
 ghost use Rattle.points.specs.Points.{sectionOf, values};
-ghost use Rattle.pole_zero.specs.PoleZero.{tableOf, sectionRefusal, sectionValues};
-ghost use Rattle.sentivolus.specs.Design.{kindOf, pointOf, stateOf, designOf, sectionLeft};
+ghost use Rattle.pole_zero.specs.PoleZero.{tableOf};
+ghost use Rattle.sentivolus.specs.Design.{kindOf, pointOf, stateOf, designOf, TableLeft, SectionLeft};
 use points::Point;
 use points::PointKind;
 use points::State;
@@ -102,7 +102,8 @@ pub extern "C" fn sentivolus_table(
     sections: &mut [f32; 160],
     gain: &mut f32,
 ) -> u32
-    ensures { λ r. ⌜ (r ≡ tableOf (designOf (now (kinds .entry)) (now (numbers .entry)) «gain_db») .active) × (now (sections .exit) ≡ tableOf (designOf (now (kinds .entry)) (now (numbers .entry)) «gain_db») .sections) × (now (gain .exit) ≡ tableOf (designOf (now (kinds .entry)) (now (numbers .entry)) «gain_db») .gain) ⌝ }
+    ensures { λ r. ⌜ TableLeft (tableOf (designOf (now (kinds .entry)) (now (numbers .entry)) «gain_db»))
+        r (now (sections .exit)) (now (gain .exit)) ⌝ }
 {
     let t = Table::of(design_of(kinds, numbers, gain_db));
     let s = t.sections;
@@ -122,7 +123,8 @@ pub extern "C" fn sentivolus_section(
     y: f32,
     out: &mut [f32; 5],
 ) -> u32
-    ensures { λ r. ⌜ (r ≡ sectionRefusal point) × (now (out .exit) ≡ sectionLeft (designOf (now (kinds .entry)) (now (numbers .entry)) «gain_db») point x y (now (out .entry))) ⌝ }
+    ensures { λ r. ⌜ SectionLeft (designOf (now (kinds .entry)) (now (numbers .entry)) «gain_db») point x y (now (out .entry))
+        r (now (out .exit)) ⌝ }
 {
     match design_of(kinds, numbers, gain_db).section(point, x, y) {
         Answer::Values(s) => {

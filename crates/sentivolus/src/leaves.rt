@@ -9,6 +9,7 @@ ghost use Rattle.lines.specs.Lines.{hermiteOf, ringLen, readOf};
 ghost use Rattle.filter.specs.Filter.{ratioOf, gainOf, svfOf};
 ghost use Rattle.filter.specs.Voice.{voiceTargets};
 ghost use Rattle.extended.specs.Extended.{asymOf};
+ghost use Rattle.sentivolus.specs.Calls.{paramsOf};
 ghost use Rattle.sentivolus.specs.Design.{stageNumbers};
 use filter::Pitch;
 use filter::Ratio;
@@ -151,7 +152,8 @@ pub extern "C" fn sentivolus_targets_of(
     morph_y: f32,
     out: &mut [f32; 10],
 )
-    ensures { λ _. ⌜ now (out .exit) ≡ voiceTargets record { resonance = resonance; drive = drive; saturation = saturation; character = character; «stereo_offset» = «stereo_offset»; mix = mix; level = level; «morph_x» = «morph_x»; «morph_y» = «morph_y» } ⌝ }
+    ensures { λ _. ⌜ now (out .exit) ≡ voiceTargets
+        (paramsOf resonance drive saturation character «stereo_offset» mix level «morph_x» «morph_y») ⌝ }
 {
     let t = filter::voice_targets(VoiceParams {
         resonance: resonance,

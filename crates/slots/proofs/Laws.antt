@@ -16,18 +16,18 @@ module _ {ℓ} {A : Type ℓ} (m k s : ℕ) where
       ap (λ (r : List A). take m (drop o xs) ++ take k r) (sym (drop-drop m o xs)) ∙ sym (take-add m k (drop o xs))
 
   pub two-stores : (p q xs : List A) → length p ≡ m → length q ≡ k → s * (m + k) + (m + k) ≤ length xs
-      → paste (paste xs (s * (m + k)) p (length p)) (s * (m + k) + m) q (length q) ≡ patch (m + k) s (p ++ q) xs
+      → paste (paste xs (s * (m + k)) p m) (s * (m + k) + m) q k ≡ patch (m + k) s (p ++ q) xs
   unfolding patch
   two-stores p q xs hp hq h =
       let o : ℕ = s * (m + k) in
       let e : o + m + k ≡ o + (m + k) = omega arith in
-      let f : paste xs o p (length p) ≡ paste xs o p m = ap (paste xs o p) hp in
-      ap (λ (r : List A). paste r (o + m) q (length q)) f
-      ∙ ap (paste (paste xs o p m) (o + m) q) hq
-      ∙ (λ i. take-paste xs o p m (omega arith) (omega arith) i ++ take-all k q (omega arith) i ++ rest o e (omega arith) i)
+      (λ i. take-paste xs o p m (omega arith) (omega arith) i ++ take-all k q (omega arith) i ++ rest o e (omega arith) i)
       ∙ ap (λ (r : List A). take o xs ++ r ++ q ++ drop (o + (m + k)) xs) (take-all m p (omega arith))
       ∙ ap (λ (r : List A). r ++ drop (o + (m + k)) xs) (append-assoc (take o xs) p q)
     where
       rest : (o : ℕ) → o + m + k ≡ o + (m + k) → o ≤ length xs → drop (o + m + k) (paste xs o p m) ≡ drop (o + (m + k)) xs
       rest o e l =
-          sym (drop-drop k (o + m) (paste xs o p m)) ∙ ap (drop k) (drop-paste xs o p m l (omega arith)) ∙ drop-drop k (o + m) xs ∙ ap (λ (n : ℕ). drop n xs) e
+          sym (drop-drop k (o + m) (paste xs o p m))
+          ∙ ap (drop k) (drop-paste xs o p m l (omega arith))
+          ∙ drop-drop k (o + m) xs
+          ∙ ap (λ (n : ℕ). drop n xs) e

@@ -1,21 +1,18 @@
 -- The engine of a setup: what the layers below make of the setup without its polyphony (document 01, 'A bank is opened').
--- Definitions, and the laws that demand 3 asks of an engine, from those of a tick. Assumes nothing.
-use mathlib.Core.Path.{_≡_, refl}
+-- Definitions only.
 use Prim.Native.Nat.{ℕ}
 use mathlib.Core.Bool.{Bool, not, _&&_, _||_}
 use mathlib.Core.List.{List}
 use lib.Dec.{leb}
-use lib.ListN.{length}
 use lib.Ieee.{Float, lt, isNan}
 use Rattle.lane.specs.Floats.{whole, one}
 use Rattle.lines.specs.Lines.{rateRefused, ringLen}
 use Rattle.filter.specs.declared.VoiceParams.{VoiceParams}
-use Rattle.filter.specs.Voice.{defaultParams, targetsOf, morphTargetsOf, voiceTargets, nanKnob}
+use Rattle.filter.specs.Voice.{defaultParams, voiceTargets, nanKnob}
 use Rattle.extended.specs.Extended.{linesMark}
 use Rattle.pole_zero.specs.declared.Table.{Table}
 use Rattle.run.specs.Run.{constantsOf, signOf, tickWith}
-use Rattle.run.specs.Laws.{rec-length, ring-length}
-use Rattle.voices.specs.Calls.{targetsWidth, Check, check, _then_, Steering, Tick, Engine, Laws}
+use Rattle.voices.specs.Calls.{Check, check, _then_, Steering, Tick, Engine}
 
 -- the setup without its voices
 pub record SoloSetup : Type 0 where
@@ -46,10 +43,11 @@ setupCheckOf s voices =
 -- ---- the engine
 
 -- points 1 to 5 of 'One block goes through', for one frame of one channel
-unfoldable pub tickOf : SoloSetup → (channel : ℕ) (targets : List Float) (cursor : ℕ) (pitch input : Float) → Steering → (rec ring : List Float) → Tick
+unfoldable pub tickOf : SoloSetup → (channel : ℕ) (targets : List Float) (cursor : ℕ) (pitch input : Float)
+    → Steering → (rec ring : List Float) → Tick
 tickOf s c tg cur pitch input st rec ring =
-    tickWith (s .code) (constantsOf (s .rate) (s .reference) (s .clean)) (s .table .sections) (s .table .active) (s .table .gain)
-    (ringLen (s .rate)) (signOf (s .channels) c) tg cur pitch input st rec ring
+    tickWith (s .code) (constantsOf (s .rate) (s .reference) (s .clean)) (s .table) (ringLen (s .rate)) (signOf (s .channels) c)
+    tg cur pitch input st rec ring
 
 -- refusal 8 names a NaN knob
 abbrev pub engineOf : SoloSetup → Engine
@@ -63,17 +61,4 @@ engineOf s = record {
   lines = linesMark (s .code);
   setupCheck = setupCheckOf s;
   tick = tickOf s;
-}
-
-pub targets-length : (p : VoiceParams) → length (voiceTargets p) ≡ targetsWidth
-unfolding voiceTargets targetsOf morphTargetsOf
-targets-length p = refl
-
--- targets, records and rings keep their lengths
-pub engine-laws : (s : SoloSetup) → Laws (engineOf s)
-unfolding tickOf
-engine-laws s = record {
-  targets-length = targets-length;
-  rec-length = λ c tg cur p i st r d hc ht hr hd. rec-length _ _ _ _ _ _ _ _ _ _ _ _ r d hr;
-  ring-length = λ c tg cur p i st r d hc ht hr hd. ring-length _ _ _ _ _ _ _ _ _ _ _ _ r d hd;
 }

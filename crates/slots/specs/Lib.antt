@@ -1,5 +1,6 @@
--- To be read: Engine, with Order. Slots names what the code of a block holds; Frame reads the code's ticks and slots as the definitions'.
+-- To be read: Engine, with Order.
 pub mod Engine
 pub mod Order
+pub mod Laws
 pub mod Slots
 pub mod Frame

@@ -11,7 +11,8 @@ use Rattle.voices.specs.Calls.{Check, fine, refused, check, _then_}
 use Rattle.slots.specs.Engine.{SoloSetup, referenceRefused, setupCheckOf}
 
 abbrev checked : (code : ℕ) (rate reference : Float) (voices channels : ℕ) → Table → Check
-checked code rate reference voices channels t = setupCheckOf (record { code = code; rate = rate; reference = reference; channels = channels; clean = false; table = t }) voices
+checked code rate reference voices channels t =
+    setupCheckOf (record { code = code; rate = rate; reference = reference; channels = channels; clean = false; table = t }) voices
 
 in-order : (t : Table)
     → (checked 13 nan nan 17 3 t ≡ refused 1)

@@ -1,6 +1,8 @@
--- What the code of a block holds, read as the definitions' setup, block and lists. Definitions only.
+-- For the proofs: nothing here must be believed.
+-- What the code of a block holds, read as the definitions' setup, block and lists, and what its functions promise each other.
+-- Definitions only. Assumes nothing.
 use mathlib.Core.Path.{_≡_}
-use Prim.Native.Nat.{ℕ, _+_, _*_, _≤_, _<_}
+use Prim.Native.Nat.{ℕ, _+_, _*_, _/_, _%_, _≤_, _<_}
 use mathlib.Core.Bool.{true}
 use mathlib.Core.List.{List, [], _++_}
 use lib.Ieee.{Float}
@@ -8,20 +10,23 @@ use lib.ListN.{length}
 use Rattle.parts.specs.Parts.{upto, piece}
 use Rattle.lines.specs.Lines.{ringLen, isLength}
 use Rattle.run.specs.Run.{constantsOf, signOf}
-use Rattle.voices.specs.Calls.{targetsWidth, recordWidth, mostFrames, Engine, Bank, Block, BlockRun, SlotRun, slotOf}
+use Rattle.run.specs.Contracts.{tableFor}
+use Rattle.voices.specs.Calls.{targetsWidth, recordWidth, mostFrames, Engine, Bank, Block, BlockRun, SlotRun, frameOf, slotOf}
 use Rattle.slots.specs.declared.Prepared.{Prepared}
-use Rattle.slots.specs.declared.Place.{Place}
+use Rattle.slots.specs.declared.Slot.{Slot}
 use Rattle.slots.specs.Engine.{SoloSetup, engineOf}
+
+-- ---- the setup, the block and the lists
 
 -- the setup without its voices, of a block's numbers and its table's sections
 abbrev pub soloAt : Prepared → (sections : List Float) → SoloSetup
 soloAt e sections = record {
-  code = e .code;
+  code = e .m .code;
   rate = e .rate;
   reference = e .reference;
   channels = e .channels;
   clean = e .clean;
-  table = record { active = e .active; sections = sections; gain = e .gain };
+  table = tableFor (e .m) sections;
 }
 
 abbrev pub engineAt : Prepared → (sections : List Float) → Engine
@@ -44,23 +49,32 @@ blockRun rs ds a = record { records = rs; delay = ds; audio = a }
 abbrev pub slotRun : (params state delay audio : List Float) → SlotRun
 slotRun params state ds a = record { rec = params ++ state; delay = ds; audio = a }
 
+-- ---- what the functions ask
+
 -- what was worked out once, of numbers that were accepted
 pub record Worked (e : Prepared) : Type 0 where
+  pub some-voice : 0 < e .voices
   pub voices : e .voices ≤ 16
   pub channels : e .channels ≤ 2
   pub frames : e .frames ≤ mostFrames
   pub slots : e .slots ≡ e .channels * e .voices
   pub len : e .len ≡ ringLen (e .rate)
   pub good : isLength (e .len) ≡ true
-  pub constants : e .k ≡ constantsOf (e .rate) (e .reference) (e .clean)
+  pub constants : e .m .k ≡ constantsOf (e .rate) (e .reference) (e .clean)
 
 -- a slot's number and sign
-pub record Placed (e : Prepared) (p : Place) : Type 0 where
+pub record Placed (e : Prepared) (p : Slot) : Type 0 where
   pub channel : p .channel < e .channels
   pub voice : p .voice < e .voices
-  pub slot : p .slot ≡ p .channel * e .voices + p .voice
-  pub below : p .slot < e .slots
+  pub number : p .number ≡ p .channel * e .voices + p .voice
+  pub below : p .number < e .slots
   pub sign : p .sign ≡ signOf (e .channels) (p .channel)
+
+-- slot s, in the order of the lists
+pub record PlacedAt (e : Prepared) (s : ℕ) (p : Slot) : Type 0 where
+  pub placed : Placed e p
+  pub channel-is : p .channel ≡ s / e .voices
+  pub voice-is : p .voice ≡ s % e .voices
 
 -- the lists of a block are as long as they should be
 pub record Buffers (e : Prepared) (ps xs ys ds au : List Float) : Type 0 where
@@ -74,10 +88,16 @@ pub record Lists (e : Prepared) (tg rs : List Float) : Type 0 where
   pub targets : length tg ≡ e .voices * targetsWidth
   pub records : length rs ≡ e .slots * recordWidth
 
--- the first n voices of a channel, and the first m channels
-unfoldable pub channelAt : Prepared → (sections targets pitch x y : List Float) (channel n : ℕ) → BlockRun → BlockRun
-channelAt e sections tg pitch x y c n w = upto (λ v. slotOf (engineAt e sections) (e .voices) (blockAt e pitch x y) (piece targetsWidth v tg) (e .cursor) c v) n w
+-- ---- what they do
 
-unfoldable pub channelsAt : Prepared → (sections targets pitch x y : List Float) (m : ℕ) → BlockRun → BlockRun
-unfolding channelAt
-channelsAt e sections tg pitch x y m w = upto (λ c. channelAt e sections tg pitch x y c (e .voices)) m w
+-- frame f of a slot
+abbrev pub frameIn : Prepared → (sections targets pitch x y : List Float) → Slot → (f : ℕ) → SlotRun → SlotRun
+frameIn e sections tg pitch x y p = frameOf (engineAt e sections) (e .voices) (blockAt e pitch x y) tg (e .cursor) (p .channel) (p .voice)
+
+-- the slot of a channel and a voice
+abbrev pub slotIn : Prepared → (sections targets pitch x y : List Float) (channel voice : ℕ) → BlockRun → BlockRun
+slotIn e sections tg pitch x y c v = slotOf (engineAt e sections) (e .voices) (blockAt e pitch x y) (piece targetsWidth v tg) (e .cursor) c v
+
+-- the first n slots, in the order of the lists
+unfoldable pub slotsIn : Prepared → (sections targets pitch x y : List Float) (n : ℕ) → BlockRun → BlockRun
+slotsIn e sections tg pitch x y n w = upto (λ s. slotIn e sections tg pitch x y (s / e .voices) (s % e .voices)) n w

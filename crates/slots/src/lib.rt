@@ -3,16 +3,19 @@ ghost use mathlib.Core.Path.{_≡_};
 ghost use mathlib.Core.List.{_++_};
 ghost use mathlib.Core.Bool.{true, cond};
 ghost use Prim.Native.Nat.{_+_, _*_, _%_, _^_, _<_, _≤_};
-ghost use lib.Ieee.{nan};
-ghost use lib.ListN.{length, getD, replicate, take, drop};
+ghost use lib.ListN.{length, replicate, take, drop};
 ghost use lib.Seq.{paste};
-ghost use Rattle.parts.specs.Parts.{upto, piece, patch};
+ghost use Rattle.parts.specs.Parts.{upto, patch};
+ghost use Rattle.lane.specs.Floats.{_‼_, zero};
 ghost use Rattle.extended.specs.Extended.{linesMark};
-ghost use Rattle.voices.specs.Calls.{positiveZero, targetsWidth, recordWidth, statesWidth, frameOf, slotOf, blockOf};
-ghost use Rattle.kernels.specs.Tuning.{Kept, KeptSections};
-ghost use Rattle.slots.specs.Slots.{engineAt, blockOn, blockAt, bankAt, blockRun, slotRun, Worked, Placed, Buffers, Lists, channelAt};
+ghost use Rattle.voices.specs.Calls.{targetsWidth, recordWidth, statesWidth, blockOf};
+ghost use Rattle.run.specs.Contracts.{Keeps};
+ghost use Rattle.slots.specs.Slots.{engineAt, blockOn, bankAt, blockRun, slotRun, Worked, Placed, PlacedAt, Buffers, Lists};
+ghost use Rattle.slots.specs.Slots.{frameIn, slotIn};
 use filter::Pitch;
-use run::Constants;
+use lines::Ring;
+use run::FrameInput;
+use run::Structure;
 
 // The place of a column in a row, of a list of so many rows.
 pub fn place_at(row: usize, width: usize, column: usize, rows: usize, len: usize) -> usize
@@ -30,28 +33,14 @@ pub fn start_of(s: usize, width: usize, pieces: usize, len: usize) -> usize
     s * width
 }
 
-// Fills `into` with the numbers of a list from a place on.
-fn load(list: &[f32], at: usize, into: &mut [f32])
-    requires { ⌜ at + length (now into) ≤ length (now list) ⌝ }
-    ensures { λ _. ⌜ now (into .exit) ≡ take (length (now (into .entry))) (drop at (now (list .entry))) ⌝ }
+// Copies n numbers from a place of one list to a place of another.
+pub fn copy(list: &[f32], from: usize, into: &mut [f32], to: usize, n: usize)
+    requires { ⌜ (from + n ≤ length (now list)) × (to + n ≤ length (now into)) ⌝ }
+    ensures { λ _. ⌜ now (into .exit) ≡ paste (now (into .entry)) to (drop from (now (list .entry))) n ⌝ }
 {
-    let n = into.len();
     let mut i: usize = 0;
     while i < n {
-        into[i] = list[at + i];
-        i += 1;
-    }
-}
-
-// Stores `from` into a list from a place on.
-pub fn store(list: &mut [f32], at: usize, from: &[f32])
-    requires { ⌜ at + length (now from) ≤ length (now list) ⌝ }
-    ensures { λ _. ⌜ now (list .exit) ≡ paste (now (list .entry)) at (now (from .entry)) (length (now (from .entry))) ⌝ }
-{
-    let n = from.len();
-    let mut i: usize = 0;
-    while i < n {
-        list[at + i] = from[i];
+        into[to + i] = list[from + i];
         i += 1;
     }
 }
@@ -62,7 +51,7 @@ pub fn load_ten(list: &[f32], at: usize) -> [f32; 10]
     ensures { λ r. ⌜ r ≡ take 10 (drop at (now (list .entry))) ⌝ }
 {
     let mut into = [0.0f32; 10];
-    load(list, at, &mut into);
+    copy(list, at, &mut into, 0, 10);
     into
 }
 
@@ -72,24 +61,24 @@ fn load_states(list: &[f32], at: usize) -> [f32; 20]
     ensures { λ r. ⌜ r ≡ take 20 (drop at (now (list .entry))) ⌝ }
 {
     let mut into = [0.0f32; 20];
-    load(list, at, &mut into);
+    copy(list, at, &mut into, 0, 20);
     into
 }
 
 // Stores a slot's record.
 fn store_record(records: &mut [f32], slot: usize, params: &[f32; 10], state: &[f32; 20])
-    requires { ⌜ slot * 30 + 30 ≤ length (now records) ⌝ }
+    requires { ⌜ slot * recordWidth + recordWidth ≤ length (now records) ⌝ }
     ensures { λ _. ⌜ now (records .exit) ≡ patch recordWidth slot (now (params .entry) ++ now (state .entry)) (now (records .entry)) ⌝ }
 {
     let at = slot * 30;
-    store(records, at, params);
-    store(records, at + 10, state);
+    copy(params, 0, records, at, 10);
+    copy(state, 0, records, at + 10, 20);
 }
 
 // Zeroes a slot's ring.
 fn zero_ring(delay: &mut [f32], slot: usize, len: usize)
     requires { ⌜ slot * len + len ≤ length (now delay) ⌝ }
-    ensures { λ _. ⌜ now (delay .exit) ≡ patch len slot (replicate len positiveZero) (now (delay .entry)) ⌝ }
+    ensures { λ _. ⌜ now (delay .exit) ≡ patch len slot (replicate len zero) (now (delay .entry)) ⌝ }
 {
     let base = slot * len;
     let mut i: usize = 0;
@@ -107,8 +96,9 @@ pub fn start_slot(
     slot: usize,
     len: usize,
 )
-    requires { ⌜ (slot * 30 + 30 ≤ length (now records)) × (slot * len + len ≤ length (now delay)) ⌝ }
-    ensures { λ _. ⌜ (now (records .exit) ≡ patch recordWidth slot (now (targets .entry) ++ replicate statesWidth positiveZero) (now (records .entry))) × (now (delay .exit) ≡ patch len slot (replicate len positiveZero) (now (delay .entry))) ⌝ }
+    requires { ⌜ (slot * recordWidth + recordWidth ≤ length (now records)) × (slot * len + len ≤ length (now delay)) ⌝ }
+    ensures { λ _. ⌜ (now (records .exit) ≡ patch recordWidth slot (now (targets .entry) ++ replicate statesWidth zero) (now (records .entry)))
+        × (now (delay .exit) ≡ patch len slot (replicate len zero) (now (delay .entry))) ⌝ }
 {
     let states = [0.0f32; 20];
     store_record(records, slot, targets, &states);
@@ -116,30 +106,41 @@ pub fn start_slot(
 }
 
 // What a block works with beside the lists: the setup's numbers but for its table's sections, the block's, and what is worked out
-// from them once: the number of slots, the ring's length and the constants.
+// from them once: the number of slots, the ring's length and what every tick takes.
 pub struct Prepared {
-    pub code: u32,
+    pub m: Structure,
     pub rate: f32,
     pub reference: f32,
+    pub clean: bool,
     pub voices: usize,
     pub channels: usize,
-    pub clean: bool,
-    pub active: u32,
-    pub gain: f32,
     pub cursor: usize,
     pub frames: usize,
     pub steered: bool,
     pub slots: usize,
     pub len: usize,
-    pub k: Constants,
 }
 
 // A slot: its channel and voice, its number, and the channel's sign.
-pub struct Place {
+pub struct Slot {
     pub channel: usize,
     pub voice: usize,
-    pub slot: usize,
+    pub number: usize,
     pub sign: f32,
+}
+
+// Slot s, in the order of the lists: by channel, then by voice.
+fn slot_at(e: Prepared, s: usize) -> Slot
+    requires { ⌜ (Worked e) × (s < e .slots) ⌝ }
+    ensures { λ r. ⌜ PlacedAt e s r ⌝ }
+{
+    let channel = s / e.voices;
+    Slot {
+        channel: channel,
+        voice: s % e.voices,
+        number: s,
+        sign: run::sign(e.channels, channel),
+    }
 }
 
 // The cursor so many frames on: it wraps at the machine word if the structure runs on the delay lines, else it stays.
@@ -155,7 +156,7 @@ pub fn cursor_after(code: u32, cursor: usize, frames: usize) -> usize
 // A steered frame's x or y; an unsteered one has none.
 fn steering_at(steered: bool, list: &[f32], i: usize) -> f32
     requires { ⌜ (steered ≡ true → i < length (now list)) ⌝ }
-    ensures { λ r. ⌜ (steered ≡ true → r ≡ getD (now (list .entry)) i nan) ⌝ }
+    ensures { λ r. ⌜ (steered ≡ true → r ≡ now (list .entry) ‼ i) ⌝ }
 {
     if steered {
         return list[i];
@@ -178,42 +179,47 @@ fn frame(
     x: &[f32],
     y: &[f32],
     audio: &mut [f32],
-    p: Place,
+    p: Slot,
     f: usize,
 )
-    requires { ⌜ (Worked e) × (Placed e p) × (Buffers e (now pitch) (now x) (now y) (now delay) (now audio)) × (f < e .frames) × (length (now params) ≡ 10) × (Kept (e .code) (e .k .«ref_over_rate») (now tuning)) × (KeptSections (now sections) (e .active) (e .k .«ref_over_rate») (now blended)) ⌝ }
-    ensures { λ _. ⌜ (slotRun (now (params .exit)) (now (state .exit)) (now (delay .exit)) (now (audio .exit)) ≡ frameOf (engineAt e (now (sections .entry))) (e .voices) (blockAt e (now (pitch .entry)) (now (x .entry)) (now (y .entry))) (now (targets .entry)) (e .cursor) (p .channel) (p .voice) f (slotRun (now (params .entry)) (now (state .entry)) (now (delay .entry)) (now (audio .entry)))) × (length (now (params .exit)) ≡ 10) × (Kept (e .code) (e .k .«ref_over_rate») (now (tuning .exit))) × (KeptSections (now (sections .entry)) (e .active) (e .k .«ref_over_rate») (now (blended .exit))) ⌝ }
+    requires { ⌜ (Worked e) × (Placed e p) × (Buffers e (now pitch) (now x) (now y) (now delay) (now audio)) × (f < e .frames)
+        × (length (now params) ≡ targetsWidth) × (Keeps (e .m) (now sections) (now tuning) (now blended)) ⌝ }
+    ensures { λ _. ⌜ (slotRun (now (params .exit)) (now (state .exit)) (now (delay .exit)) (now (audio .exit))
+        ≡ frameIn e (now (sections .entry)) (now (targets .entry)) (now (pitch .entry)) (now (x .entry)) (now (y .entry)) p f
+        (slotRun (now (params .entry)) (now (state .entry)) (now (delay .entry)) (now (audio .entry))))
+        × (length (now (params .exit)) ≡ targetsWidth)
+        × (Keeps (e .m) (now (sections .entry)) (now (tuning .exit)) (now (blended .exit))) ⌝ }
 {
-    let at = place_at(f, e.slots, p.slot, e.frames, audio.len());
+    let m = e.m;
+    let at = place_at(f, e.slots, p.number, e.frames, audio.len());
     let from = place_at(f, e.voices, p.voice, e.frames, pitch.len());
-    let cursor = cursor_after(e.code, e.cursor, f);
-    let px = steering_at(e.steered, x, from);
-    let py = steering_at(e.steered, y, from);
+    let ring = Ring {
+        len: e.len,
+        cursor: cursor_after(m.code, e.cursor, f),
+        slot: p.number,
+    };
     let semitones = pitch[from];
     let input = audio[at];
-    let k = e.k;
+    let given = FrameInput {
+        sign: p.sign,
+        pitch: Pitch(semitones),
+        input: input,
+        steered: e.steered,
+        x: steering_at(e.steered, x, from),
+        y: steering_at(e.steered, y, from),
+    };
     let out = run::tick(
-        e.code,
-        k,
+        m,
         sections,
-        e.active,
-        e.gain,
         roots,
         tuning,
         blended,
-        p.sign,
         targets,
         params,
         state,
         delay,
-        e.len,
-        cursor,
-        p.slot,
-        Pitch(semitones),
-        input,
-        e.steered,
-        px,
-        py,
+        ring,
+        given,
     );
     audio[at] = out;
 }
@@ -233,10 +239,13 @@ fn run_frames(
     x: &[f32],
     y: &[f32],
     audio: &mut [f32],
-    p: Place,
+    p: Slot,
 )
-    requires { ⌜ (Worked e) × (Placed e p) × (Buffers e (now pitch) (now x) (now y) (now delay) (now audio)) × (length (now params) ≡ 10) × (Kept (e .code) (e .k .«ref_over_rate») (now tuning)) × (KeptSections (now sections) (e .active) (e .k .«ref_over_rate») (now blended)) ⌝ }
-    ensures { λ _. ⌜ slotRun (now (params .exit)) (now (state .exit)) (now (delay .exit)) (now (audio .exit)) ≡ upto (frameOf (engineAt e (now (sections .entry))) (e .voices) (blockAt e (now (pitch .entry)) (now (x .entry)) (now (y .entry))) (now (targets .entry)) (e .cursor) (p .channel) (p .voice)) (e .frames) (slotRun (now (params .entry)) (now (state .entry)) (now (delay .entry)) (now (audio .entry))) ⌝ }
+    requires { ⌜ (Worked e) × (Placed e p) × (Buffers e (now pitch) (now x) (now y) (now delay) (now audio))
+        × (length (now params) ≡ targetsWidth) × (Keeps (e .m) (now sections) (now tuning) (now blended)) ⌝ }
+    ensures { λ _. ⌜ slotRun (now (params .exit)) (now (state .exit)) (now (delay .exit)) (now (audio .exit))
+        ≡ upto (frameIn e (now (sections .entry)) (now (targets .entry)) (now (pitch .entry)) (now (x .entry)) (now (y .entry)) p) (e .frames)
+        (slotRun (now (params .entry)) (now (state .entry)) (now (delay .entry)) (now (audio .entry))) ⌝ }
 {
     let frames = e.frames;
     let mut f: usize = 0;
@@ -274,21 +283,16 @@ fn run_slot(
     x: &[f32],
     y: &[f32],
     audio: &mut [f32],
-    channel: usize,
-    voice: usize,
+    p: Slot,
 )
-    requires { ⌜ (Worked e) × (Lists e (now targets) (now records)) × (Buffers e (now pitch) (now x) (now y) (now delay) (now audio)) × (channel < e .channels) × (voice < e .voices) ⌝ }
-    ensures { λ _. ⌜ blockRun (now (records .exit)) (now (delay .exit)) (now (audio .exit)) ≡ slotOf (engineAt e (now (sections .entry))) (e .voices) (blockAt e (now (pitch .entry)) (now (x .entry)) (now (y .entry))) (piece targetsWidth voice (now (targets .entry))) (e .cursor) channel voice (blockRun (now (records .entry)) (now (delay .entry)) (now (audio .entry))) ⌝ }
+    requires { ⌜ (Worked e) × (Lists e (now targets) (now records)) × (Buffers e (now pitch) (now x) (now y) (now delay) (now audio))
+        × (Placed e p) ⌝ }
+    ensures { λ _. ⌜ blockRun (now (records .exit)) (now (delay .exit)) (now (audio .exit))
+        ≡ slotIn e (now (sections .entry)) (now (targets .entry)) (now (pitch .entry)) (now (x .entry)) (now (y .entry)) (p .channel) (p .voice)
+        (blockRun (now (records .entry)) (now (delay .entry)) (now (audio .entry))) ⌝ }
 {
-    let slot = place_at(channel, e.voices, voice, e.channels, e.slots);
-    let p = Place {
-        channel: channel,
-        voice: voice,
-        slot: slot,
-        sign: run::sign(e.channels, channel),
-    };
-    let from = start_of(voice, 10, e.voices, targets.len());
-    let at = start_of(slot, 30, e.slots, records.len());
+    let from = start_of(p.voice, 10, e.voices, targets.len());
+    let at = start_of(p.number, 30, e.slots, records.len());
     let goals = load_ten(targets, from);
     let mut params = load_ten(records, at);
     let mut state = load_states(records, at + 10);
@@ -310,45 +314,7 @@ fn run_slot(
         audio,
         p,
     );
-    store_record(records, slot, &params, &state);
-}
-
-// A block through the slots of one channel.
-fn run_channel(
-    e: Prepared,
-    sections: &[f32; 160],
-    roots: &[u8; 1024],
-    targets: &[f32],
-    records: &mut [f32],
-    delay: &mut [f32],
-    pitch: &[f32],
-    x: &[f32],
-    y: &[f32],
-    audio: &mut [f32],
-    channel: usize,
-)
-    requires { ⌜ (Worked e) × (Lists e (now targets) (now records)) × (Buffers e (now pitch) (now x) (now y) (now delay) (now audio)) × (channel < e .channels) ⌝ }
-    ensures { λ _. ⌜ blockRun (now (records .exit)) (now (delay .exit)) (now (audio .exit)) ≡ channelAt e (now (sections .entry)) (now (targets .entry)) (now (pitch .entry)) (now (x .entry)) (now (y .entry)) channel (e .voices) (blockRun (now (records .entry)) (now (delay .entry)) (now (audio .entry))) ⌝ }
-{
-    let voices = e.voices;
-    let mut v: usize = 0;
-    while v < voices {
-        run_slot(
-            e,
-            sections,
-            roots,
-            targets,
-            records,
-            delay,
-            pitch,
-            x,
-            y,
-            audio,
-            channel,
-            v,
-        );
-        v += 1;
-    }
+    store_record(records, p.number, &params, &state);
 }
 
 // A block through every slot.
@@ -365,12 +331,16 @@ pub fn run_block(
     audio: &mut [f32],
 )
     requires { ⌜ (Worked e) × (Lists e (now targets) (now records)) × (Buffers e (now pitch) (now x) (now y) (now delay) (now audio)) ⌝ }
-    ensures { λ _. ⌜ blockRun (now (records .exit)) (now (delay .exit)) (now (audio .exit)) ≡ blockOf (engineAt e (now (sections .entry))) (e .voices) (blockOn e (now (pitch .entry)) (now (x .entry)) (now (y .entry)) (now (audio .entry))) (bankAt e (now (targets .entry)) (now (records .entry)) (now (delay .entry))) ⌝ }
+    ensures { λ _. ⌜ blockRun (now (records .exit)) (now (delay .exit)) (now (audio .exit))
+        ≡ blockOf (engineAt e (now (sections .entry))) (e .voices)
+        (blockOn e (now (pitch .entry)) (now (x .entry)) (now (y .entry)) (now (audio .entry)))
+        (bankAt e (now (targets .entry)) (now (records .entry)) (now (delay .entry))) ⌝ }
 {
-    let channels = e.channels;
-    let mut c: usize = 0;
-    while c < channels {
-        run_channel(
+    let slots = e.slots;
+    let mut s: usize = 0;
+    while s < slots {
+        let p = slot_at(e, s);
+        run_slot(
             e,
             sections,
             roots,
@@ -381,8 +351,8 @@ pub fn run_block(
             x,
             y,
             audio,
-            c,
+            p,
         );
-        c += 1;
+        s += 1;
     }
 }

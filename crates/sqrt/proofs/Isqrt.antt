@@ -11,7 +11,8 @@ use lib.Pow.{pow-pos, pow-add, pow-mono, shl-lt}
 use lib.Ieee.{size, odd}
 use lib.Ieee.Digits.{size-lt, size-le}
 use borrow.Author.Tests.{leb-true, leb-false, lt-ltb, le-ltb}
-use Rattle.sqrt.specs.Root.{digit, isqrt, closer, rootUnits, NearestWhole}
+use Rattle.sqrt.specs.Root.{digit, isqrt, closer, rootUnits}
+use Rattle.sqrt.specs.Inner.{NearestWhole}
 
 -- r is the whole part of √n
 abbrev pub Floor : ℕ → ℕ → Type 0

@@ -17,7 +17,8 @@ use lib.Ieee.Fits.{odd-fits}
 use lib.Ieee.Positive.{positive, den, den-pos, value→cross, value-pos, positive-of-value}
 use borrow.Author.Tests.{leb-true, leb-false}
 use Rattle.bits.specs.Patterns.{bits-under, normal-value, small-value}
-use Rattle.sqrt.specs.Root.{isqrt, rootOf, rootUnits, NearestWhole}
+use Rattle.sqrt.specs.Root.{isqrt, rootOf, rootUnits}
+use Rattle.sqrt.specs.Inner.{NearestWhole}
 use Rattle.sqrt.specs.Nearest.{IsUnits, Nearer, NearestRoot, RootIsNearest}
 use Rattle.sqrt.proofs.Squares.{not-most, moved}
 use Rattle.sqrt.proofs.Isqrt.{Floor, isqrt-floor, split, scaled-root}

@@ -1,6 +1,6 @@
 -- The square root of an f32 (document 01, Floats, Square root). Definitions only. Assumes nothing.
 -- A unit is 2 ^ -149, the smallest f32 above zero: every finite f32 is a whole number of units.
-use Prim.Native.Nat.{ℕ, zero, suc, _+_, _-_, _*_, _/_, _^_, _≤_, _<_}
+use Prim.Native.Nat.{ℕ, zero, suc, _+_, _-_, _*_, _/_, _^_}
 use mathlib.Core.Bool.{true, false, cond}
 use lib.Dec.{leb, ltb}
 use lib.Ieee.{Float, nan, inf, fin, up, down, size, odd}
@@ -41,10 +41,3 @@ rootOf (inf true) = nan
 rootOf (fin s zero e) = fin s zero e
 rootOf (fin true (suc m) e) = nan
 rootOf (fin false (suc m) e) = rootUnits (suc m * up e * 2 ^ 149 / down e * 2 ^ 149)
-
--- ---- what the code's inner function gives: n is the whole number nearest √m, and has 24 digits
-pub record NearestWhole (m n : ℕ) : Type 0 where
-  pub above : n * (n - 1) < m
-  pub below : m ≤ n * (n + 1)
-  pub low : 8388608 ≤ n
-  pub high : n < 16777216

@@ -5,7 +5,8 @@ ghost use mathlib.Core.Bool.{true};
 ghost use lib.Dec.{T};
 ghost use lib.Ieee.{binary32, fits};
 ghost use Prim.Native.Nat.{_+_, _-_, _*_, _/_, _^_, _<_, _≤_};
-ghost use Rattle.sqrt.specs.Root.{rootOf, rootUnits, NearestWhole};
+ghost use Rattle.sqrt.specs.Root.{rootOf, rootUnits};
+ghost use Rattle.sqrt.specs.Inner.{NearestWhole};
 ghost use Rattle.sqrt.specs.Openings as Openings;
 
 mod table;

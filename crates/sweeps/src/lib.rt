@@ -2,7 +2,10 @@
 // alone, in a struct of its name, and the step over the input and the states.
 ghost use mathlib.Core.Path.{_≡_};
 ghost use Prim.Native.Nat.{_<_};
-ghost use Rattle.sweeps.specs.Sweeps.{buzzWith, buzzMix, buzzStep, djDistance, djDepth, djPitch, djK, djCoefficients, djWith, djMix, djStep, diffuserK, diffuserWeight, diffuserWith, diffuseStage, diffuserStep};
+ghost use Rattle.extended.specs.Extended.{ticked};
+ghost use Rattle.sweeps.specs.Sweeps.{buzzWith, buzzMix, buzzStep};
+ghost use Rattle.sweeps.specs.Sweeps.{djDistance, djDepth, djPitch, djK, djCoefficients, djWith, djFiltered, djStep};
+ghost use Rattle.sweeps.specs.Sweeps.{diffuserK, diffuserWeight, diffuserWith, diffuseStage, diffuserStep};
 use extended::Settings;
 use filter::Pitch;
 use filter::Stage;
@@ -16,7 +19,7 @@ const BUZZ_KNEE: f32 = 3.0;
 // its output morphing from low-pass through notch to high-pass.
 pub struct BuzzMorph {
     pub g: f32,
-    pub k: f32,
+    pub law: f32,
     pub inv_knee: f32,
     pub w_low: f32,
     pub w_high: f32,
@@ -28,7 +31,7 @@ pub fn buzz_with(g: f32, p: Settings) -> BuzzMorph
 {
     BuzzMorph {
         g: g,
-        k: filter::svf_k(K_BUTTERWORTH_2, -1.0 / 0.0, p.resonance),
+        law: filter::svf_k(K_BUTTERWORTH_2, -1.0 / 0.0, p.resonance),
         inv_knee: p.inv_knee * BUZZ_KNEE,
         w_low: lane::min((1.0 - p.character) * 2.0, 1.0),
         w_high: lane::min(p.character * 2.0, 1.0),
@@ -44,9 +47,9 @@ fn buzz_mix(c: BuzzMorph, u: f32, k: f32, s: Stage) -> f32
 
 // State: 0 and 1 the stage, 2 its previous band output. `t` is the root's table.
 pub fn buzz_step(c: BuzzMorph, state: &mut [f32; 20], x: f32, t: &[u8; 1024]) -> f32
-    ensures { λ r. ⌜ (r ≡ buzzStep c (now (state .entry)) x .out) × (now (state .exit) ≡ buzzStep c (now (state .entry)) x .state) ⌝ }
+    ensures { λ r. ⌜ ticked r (now (state .exit)) ≡ buzzStep c (now (state .entry)) x ⌝ }
 {
-    let k = filter::saturated_k(K_BUTTERWORTH_2, c.k, state[2], c.inv_knee, t);
+    let k = filter::saturated_k(K_BUTTERWORTH_2, c.law, state[2], c.inv_knee, t);
     let u = extended::asym(x);
     let s = filter::svf(state[0], state[1], u, c.g, k);
     state[0] = s.ic1;
@@ -114,22 +117,7 @@ fn dj_k(r: f32) -> f32
     r * (DJ_K_MIN - K_BUTTERWORTH_2) + K_BUTTERWORTH_2
 }
 
-pub fn dj_coefficients(pitch: Pitch, p: Settings) -> DjSweep
-    ensures { λ r. ⌜ r ≡ djCoefficients pitch p ⌝ }
-{
-    let reference = p.ref_over_rate;
-    let d = dj_distance(pitch);
-    let low_side = extended::unit(-d * 1000000.0);
-    let u = dj_depth(d);
-    DjSweep {
-        g: filter::gain(dj_pitch(low_side, u), reference),
-        k: dj_k(p.resonance),
-        low_side: low_side,
-        wet: lane::min(u * (1.0 / DJ_FADE), 1.0),
-    }
-}
-
-// From what dj_coefficients gave at the pitch.
+// From what follows from the pitch alone.
 pub fn dj_with(g: f32, low_side: f32, wet: f32, p: Settings) -> DjSweep
     ensures { λ r. ⌜ r ≡ djWith g «low_side» wet p ⌝ }
 {
@@ -141,22 +129,32 @@ pub fn dj_with(g: f32, low_side: f32, wet: f32, p: Settings) -> DjSweep
     }
 }
 
-fn dj_mix(c: DjSweep, x: f32, s: Stage) -> f32
-    ensures { λ r. ⌜ r ≡ djMix c x s ⌝ }
+pub fn dj_coefficients(pitch: Pitch, p: Settings) -> DjSweep
+    ensures { λ r. ⌜ r ≡ djCoefficients pitch p ⌝ }
+{
+    let reference = p.ref_over_rate;
+    let d = dj_distance(pitch);
+    let low_side = extended::unit(-d * 1000000.0);
+    let u = dj_depth(d);
+    let g = filter::gain(dj_pitch(low_side, u), reference);
+    dj_with(g, low_side, lane::min(u * (1.0 / DJ_FADE), 1.0), p)
+}
+
+fn dj_filtered(c: DjSweep, x: f32, s: Stage) -> f32
+    ensures { λ r. ⌜ r ≡ djFiltered c x s ⌝ }
 {
     let high = x - c.k * s.band - s.low;
-    let filtered = c.low_side * (s.low - high) + high;
-    c.wet * (filtered - x) + x
+    c.low_side * (s.low - high) + high
 }
 
 // State: 0 and 1 the stage.
 pub fn dj_step(c: DjSweep, state: &mut [f32; 20], x: f32) -> f32
-    ensures { λ r. ⌜ (r ≡ djStep c (now (state .entry)) x .out) × (now (state .exit) ≡ djStep c (now (state .entry)) x .state) ⌝ }
+    ensures { λ r. ⌜ ticked r (now (state .exit)) ≡ djStep c (now (state .entry)) x ⌝ }
 {
     let s = filter::svf(state[0], state[1], x, c.g, c.k);
     state[0] = s.ic1;
     state[1] = s.ic2;
-    dj_mix(c, x, s)
+    c.wet * (dj_filtered(c, x, s) - x) + x
 }
 
 // The diffuser: eight second-order all-pass stages at the cutoff in series, character setting how many are heard, resonance their Q.
@@ -226,7 +224,7 @@ fn diffuse_stage(c: Diffuser, d: Diffused, j: usize) -> Diffused
 
 // State: 2j and 2j + 1 stage j.
 pub fn diffuser_step(c: Diffuser, state: &mut [f32; 20], x: f32) -> f32
-    ensures { λ r. ⌜ (r ≡ diffuserStep c (now (state .entry)) x .out) × (now (state .exit) ≡ diffuserStep c (now (state .entry)) x .state) ⌝ }
+    ensures { λ r. ⌜ ticked r (now (state .exit)) ≡ diffuserStep c (now (state .entry)) x ⌝ }
 {
     let start = *state;
     let mut d = Diffused {

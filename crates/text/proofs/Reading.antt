@@ -15,17 +15,17 @@ use Rattle.text.specs.declared.Span.{Span}
 use Rattle.text.specs.declared.Number.{Number}
 use Rattle.text.specs.declared.Number.the-variants.{Value, Refused}
 use Rattle.text.specs.declared.Pattern.the-variants.{Malformed}
-use Rattle.text.specs.Text.{before, count, firstOf, bytesOf, digitOf, provided, numberFrom, decimalOf, patternOf, hexOf}
+use Rattle.text.specs.Text.{countBefore, count, firstOf, bytesOf, digitOf, provided, numberFrom, decimalOf, patternOf, hexOf}
 
 -- ---- the first of two bytes
 
 module _ (a b : ℕ) (s : List ℕ) (i : ℕ) where
   pub first-end : length s ≤ i → firstOf a b s i ≡ i
-  unfolding firstOf before
+  unfolding firstOf countBefore
   first-end h = let e : drop i s ≡ [] = drop-of-length-le s h in rw e (omega arith)
 
-  first-is : (x : ℕ) → getD s i 0 ≡ x → i < length s → firstOf a b s i ≡ i + count (eqb x a || eqb x b) (before a b (drop (i + 1) s))
-  unfolding firstOf before
+  first-is : (x : ℕ) → getD s i 0 ≡ x → i < length s → firstOf a b s i ≡ i + count (eqb x a || eqb x b) (countBefore a b (drop (i + 1) s))
+  unfolding firstOf countBefore
   first-is x e h = rw (drop-cons s i 0 h, e, add-one)
 
 or-right : (p : Bool) → (p || true) ≡ true

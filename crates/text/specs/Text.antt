@@ -19,14 +19,14 @@ count true n = 0
 count false n = suc n
 
 -- how many bytes stand before the first a or b
-unfoldable pub before : ℕ → ℕ → List ℕ → ℕ
-before a b [] = 0
-before a b (x ∷ s) = count (eqb x a || eqb x b) (before a b s)
+unfoldable pub countBefore : ℕ → ℕ → List ℕ → ℕ
+countBefore a b [] = 0
+countBefore a b (x ∷ s) = count (eqb x a || eqb x b) (countBefore a b s)
 
 -- the position of the first a or b from `at` on, else the text's end
 unfoldable pub firstOf : ℕ → ℕ → List ℕ → ℕ → ℕ
-unfolding before
-firstOf a b s at = at + before a b (drop at s)
+unfolding countBefore
+firstOf a b s at = at + countBefore a b (drop at s)
 
 -- a word ends at a blank, a newline or the text's end
 unfoldable pub wordAt : List ℕ → ℕ → Span
@@ -69,14 +69,14 @@ abbrev pub patternOf : Number → Pattern
 patternOf (Value v) = Bits v
 patternOf Refused = Malformed
 
-abbrev pub whole : Bool → Pattern → Pattern
-whole true p = p
-whole false p = Malformed
+abbrev pub ofEight : Bool → Pattern → Pattern
+ofEight true p = p
+ofEight false p = Malformed
 
 -- eight hexadecimal digits
 unfoldable pub hexOf : List ℕ → Pattern
 unfolding numberFrom
-hexOf s = whole (eqb (length s) 8) (patternOf (numberFrom 16 (2 ^ 32 - 1) s 0))
+hexOf s = ofEight (eqb (length s) 8) (patternOf (numberFrom 16 (2 ^ 32 - 1) s 0))
 
 -- ---- an f32's bits, a NaN's as 7fc00000
 
@@ -128,4 +128,6 @@ decimalText n = spelled 20 n []
 -- a number below 2 ^ 32 in eight hexadecimal digits
 unfoldable pub hexText : ℕ → List ℕ
 unfolding glyph
-hexText n = glyph (n / 268435456 % 16) ∷ glyph (n / 16777216 % 16) ∷ glyph (n / 1048576 % 16) ∷ glyph (n / 65536 % 16) ∷ glyph (n / 4096 % 16) ∷ glyph (n / 256 % 16) ∷ glyph (n / 16 % 16) ∷ glyph (n % 16) ∷ []
+hexText n =
+    glyph (n / 268435456 % 16) ∷ glyph (n / 16777216 % 16) ∷ glyph (n / 1048576 % 16) ∷ glyph (n / 65536 % 16)
+    ∷ glyph (n / 4096 % 16) ∷ glyph (n / 256 % 16) ∷ glyph (n / 16 % 16) ∷ glyph (n % 16) ∷ []

@@ -3,7 +3,8 @@ ghost use mathlib.Core.Path.{_≡_};
 ghost use Prim.Native.Nat.{_+_, _<_, _≤_};
 ghost use lib.ListN.{length, drop};
 ghost use lib.Ieee.{binary32, ofBits};
-ghost use Rattle.text.specs.Text.{firstOf, wordAt, lineEnd, bytesOf, digitOf, numberFrom, decimalOf, hexOf, bitsOf, buffer, put, puts, glyph, decimalText, hexText};
+ghost use Rattle.text.specs.Text.{firstOf, wordAt, lineEnd, bytesOf, digitOf, numberFrom, decimalOf, hexOf, bitsOf, buffer, put, puts, glyph};
+ghost use Rattle.text.specs.Text.{decimalText, hexText};
 
 // A part of a text: the bytes from `start` up to, not including, `end`.
 pub struct Span {

@@ -44,7 +44,8 @@ use denote.Triple.Statement.{Contract, Triple}
 use denote.Triple.Clauses.{Ended, AtExit, Clauses, closing, ensured, lasts}
 use denote.Triple.Table.{entered, cited}
 use denote.Triple.Walked.{says as states, Stay, Stays, Fields, stay-none, gave-slice, stay-struct-at, stay-declared, Goes, AllGo, goes-none, goes-gave-slice, goes-struct-at, goes-declared, walkOf, Walks, walked, ends-at, walk-meets}
-use Rattle.lines.specs.Lines.{readOf, writeOf}
+use Rattle.lines.specs.Lines.{writeOf}
+use Rattle.view.specs.View.{ReadLeaves}
 use Rattle.view.specs.declared.Lines.{Lines}
 use Rattle.view.proofs.Lines as T
 use Rattle.view.proofs.Lines.Laws as T′
@@ -190,7 +191,7 @@ Agree 𝓤 T c d = (κs : Lfts (T .signature .lifetimes)) (a : Args (T .signatur
 
 -- a read, and a write
 abbrev pub reads : Says f32
-reads xs len cursor slot delay r zs = (r ≡ readOf xs len cursor slot delay) × (zs ≡ xs)
+reads = ReadLeaves
 
 abbrev pub writes : Says unit
 writes xs len cursor slot value r zs = zs ≡ writeOf xs len cursor slot value

@@ -1,6 +1,6 @@
 -- Good and bad views (document 01, point 4 of block): a view whose length is no power of two from 1,024 to 65,536, or whose slot ends
 -- past the list, reads 0 and writes nothing; a block makes none such. Laws of the definitions of lines/specs/Lines.antt, by the
--- test for a view. Assumes nothing.
+-- test for a view; before them what a read promises. Assumes nothing.
 use mathlib.Core.Path.{_≡_, refl, sym, subst}
 use mathlib.Core.Logic.{_≢_, _⊎_, inl, inr}
 use mathlib.Core.Bool.{Bool, true, false, _&&_}
@@ -16,6 +16,12 @@ use Rattle.parts.specs.Laws.{flat-lt, piece-fits}
 use Rattle.lines.specs.Lines.{rateRefused, ringLen, lengths, isLength, isView, readOf, writeOf}
 use Rattle.lines.specs.View.{is-bad}
 use Rattle.lines.specs.Laws.{ring-len-good, view-good, write-bad}
+
+-- ---- what a read promises
+
+-- it gives the number that `readOf` names, and leaves the list as it was
+abbrev pub ReadLeaves : (xs : List Float) (len cursor slot : ℕ) (delay r : Float) (after : List Float) → Type 0
+ReadLeaves xs len cursor slot delay r after = (r ≡ readOf xs len cursor slot delay) × (after ≡ xs)
 
 -- ---- a bad view
 
@@ -52,7 +58,8 @@ module _ (xs : List Float) (len cursor slot : ℕ) (v : Float) (bad : Bad len sl
 -- ---- a block's view
 
 -- of m channels and n voices at an accepted rate, in a delay list as long as refusal 6 asks, the view of voice v on channel c is good
-pub block-view : (rate : Float) (m n c v : ℕ) (delay : List Float) → rateRefused rate ≡ false → c < m → v < n → length delay ≡ m * n * ringLen rate
+pub block-view : (rate : Float) (m n c v : ℕ) (delay : List Float)
+    → rateRefused rate ≡ false → c < m → v < n → length delay ≡ m * n * ringLen rate
     → isView (ringLen rate) (c * n + v) (length delay) ≡ true
 block-view rate m n c v delay h hc hv l =
     view-good (ringLen rate) (c * n + v) (length delay) (ring-len-good rate h)

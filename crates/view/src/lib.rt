@@ -1,7 +1,8 @@
 // The view of the delay lines (lines.rs, `Lines`): the lent delay list, each slot's ring length, the cursor and the slot. A view whose
 // length is no power of two from 1,024 to 65,536, or whose slot ends past the list, reads 0 and writes nothing (specs/View.antt).
 ghost use mathlib.Core.Path.{_≡_};
-ghost use Rattle.lines.specs.Lines.{readOf, writeOf};
+ghost use Rattle.lines.specs.Lines.{writeOf};
+ghost use Rattle.view.specs.View.{ReadLeaves};
 
 pub struct Lines<'a> {
     // Every slot's ring, `len` values each.
@@ -16,7 +17,7 @@ pub struct Lines<'a> {
 impl<'a> Lines<'a> {
     // The slot's ring, read `delay` samples before the cursor. The list is as it was.
     pub fn read(self, delay: f32) -> f32
-        ensures { λ r. ⌜ (r ≡ readOf (now (self .entry .buf)) (self .entry .len) (self .entry .cursor) (self .entry .slot) delay) × (now (self .exit .0) ≡ now (self .entry .buf)) ⌝ }
+        ensures { λ r. ⌜ ReadLeaves (now (self .entry .buf)) (self .entry .len) (self .entry .cursor) (self .entry .slot) delay r (now (self .exit .0)) ⌝ }
     {
         lines::read_lent(&mut *self.buf, self.len, self.cursor, self.slot, delay)
     }
@@ -31,7 +32,7 @@ impl<'a> Lines<'a> {
 
 // A read through a view, on plain parameters: the borrow checker covers whoever calls this.
 pub fn read_through(buf: &mut [f32], len: usize, cursor: usize, slot: usize, delay: f32) -> f32
-    ensures { λ r. ⌜ (r ≡ readOf (now (buf .entry)) len cursor slot delay) × (now (buf .exit) ≡ now (buf .entry)) ⌝ }
+    ensures { λ r. ⌜ ReadLeaves (now (buf .entry)) len cursor slot delay r (now (buf .exit)) ⌝ }
 {
     Lines {
         buf,

@@ -1,10 +1,12 @@
+-- For the proofs: nothing here must be believed.
 -- What an accepted call has measured: from a verdict `fine` to the facts. Each law reads the checks from the first on. Assumes nothing.
 use mathlib.Core.Path.{_≡_, refl}
 use Prim.Native.Nat.{ℕ, _*_, _≤_, _<_}
 use mathlib.Core.Bool.{Bool, true, false, _&&_}
 use lib.ListN.{length}
 use borrow.Author.Tests.{eqb-true, ltb-true, leb-true}
-use Rattle.voices.specs.Calls.{targetsWidth, recordWidth, leastFrames, mostFrames, Check, fine, refused, check, _then_, Engine, Bank, Block, callSet, callStart, callBlock, storeCheck, steeringLength, openVerdict, verdict}
+use Rattle.voices.specs.Calls.{targetsWidth, recordWidth, leastFrames, mostFrames, Check, fine, refused, check, _then_, Engine, Bank, Block}
+use Rattle.voices.specs.Calls.{callSet, callStart, callBlock, storeCheck, steeringLength, openVerdict, verdict}
 
 pub check-fine : (b : Bool) (k : ℕ) → check b k ≡ fine → b ≡ true
 unfolding check

@@ -1,3 +1,4 @@
+-- For the proofs: nothing here must be believed.
 -- A slot under block: its own frames are the plain voice's, and the frames of every other slot leave its record, ring and audio as they were.
 -- By induction over the frames of one slot, then over channels and voices (`upto-focus`). A tick is used by its lengths alone. Assumes nothing.
 use mathlib.Core.Path.{_≡_, refl, sym, ap, _∙_, subst}
@@ -10,9 +11,11 @@ use lib.Ieee.{Float, nan}
 use lib.ListN.{length, getD, set, length-set}
 use lib.Seq.{getD-set-same, getD-set-other}
 use Rattle.parts.specs.Parts.{upto, tab, piece}
-use Rattle.parts.specs.Laws.{upto-keep, upto-count, upto-focus, tab-at, tab-same, flat-low, flat-high, flat-lt, piece-fits, length-piece, length-patch, piece-patch, piece-other}
-use Rattle.voices.specs.Calls.{targetsWidth, recordWidth, Tick, Engine, Laws, Bank, Block, BlockRun, SlotRun, cursorAfter, slot, pitchIndex, audioIndex, steeringAt, tickOf, frameOf, framesOf, slotOf, blockOf}
-use Rattle.voices.specs.Feed.{PlainVoice, advance, ticked, frameAt}
+use Rattle.parts.specs.Laws.{upto-keep, upto-count, upto-focus, tab-at, tab-same, flat-low, flat-high, flat-lt, piece-fits, length-piece}
+use Rattle.parts.specs.Laws.{length-patch, piece-patch, piece-other}
+use Rattle.voices.specs.Calls.{targetsWidth, recordWidth, Tick, Engine, Laws, Bank, Block, BlockRun, SlotRun, cursorAfter, slot, pitchIndex}
+use Rattle.voices.specs.Calls.{audioIndex, steeringAt, tickAt, frameOf, framesOf, slotOf, blockOf}
+use Rattle.voices.specs.Feed.{PlainVoice, advance, tickChannel, frameAt}
 use Rattle.voices.specs.Accepted.{Lengths}
 use Rattle.voices.specs.Slots.{slot-fits, voices-differ, channels-differ}
 use Rattle.voices.specs.Plain.{afterFrames, frames-targets, frames-cursor}
@@ -44,13 +47,13 @@ module _ (E : Engine) (laws : Laws E) (n : ℕ) (q : Block) where
 
   -- ---- the run of one slot
   module _ (tg : List Float) (ht : length tg ≡ targetsWidth) (cur c v : ℕ) (hc : c < channels) (hv : v < n) where
-    abbrev tickAt : ℕ → SlotRun → Tick
-    tickAt k l = tickOf E n q tg cur c v k (l .audio) (l .rec) (piece ringLength (slot E n c v) (l .delay))
+    abbrev slotTick : ℕ → SlotRun → Tick
+    slotTick k l = tickAt E n q tg cur c v k (l .audio) (l .rec) (piece ringLength (slot E n c v) (l .delay))
 
     slot-within : (l : SlotRun) → SlotLengths l → slot E n c v * ringLength + ringLength ≤ length (l .delay)
     slot-within l g = rw (g .delay) (slot-fits E n c v ringLength hc hv)
 
-    ring-kept : (k : ℕ) (l : SlotRun) → SlotLengths l → length (tickAt k l .ring) ≡ ringLength
+    ring-kept : (k : ℕ) (l : SlotRun) → SlotLengths l → length (slotTick k l .ring) ≡ ringLength
     ring-kept k l g = ring-length c tg _ _ _ _ (l .rec) _ hc ht (g .rec) (length-piece ringLength (slot E n c v) (l .delay) (slot-within l g))
 
     frame-lengths : (k : ℕ) (l : SlotRun) → SlotLengths l → SlotLengths (frameOf E n q tg cur c v k l)
@@ -61,7 +64,8 @@ module _ (E : Engine) (laws : Laws E) (n : ℕ) (q : Block) where
       audio = length-set (l .audio) _ _ ∙ g .audio;
     }
 
-    first-lengths : (w : BlockRun) → BlockLengths w → SlotLengths (record { rec = piece recordWidth (slot E n c v) (w .records); delay = w .delay; audio = w .audio })
+    first-lengths : (w : BlockRun) → BlockLengths w
+        → SlotLengths (record { rec = piece recordWidth (slot E n c v) (w .records); delay = w .delay; audio = w .audio })
     first-lengths w g = record {
       rec = length-piece recordWidth (slot E n c v) (w .records) (rw (g .records) (slot-fits E n c v recordWidth hc hv));
       delay = g .delay;
@@ -77,7 +81,8 @@ module _ (E : Engine) (laws : Laws E) (n : ℕ) (q : Block) where
     slot-lengths w g =
         let l = frames-lengths (q .frames) w g in
         record {
-          records = length-patch recordWidth (slot E n c v) _ (w .records) (rw (g .records) (slot-fits E n c v recordWidth hc hv)) (frames-lengths _ w g .rec) ∙ g .records;
+          records = length-patch recordWidth (slot E n c v) _ (w .records) (rw (g .records) (slot-fits E n c v recordWidth hc hv)) (frames-lengths _ w g .rec)
+              ∙ g .records;
           delay = l .delay;
           audio = l .audio;
         }
@@ -97,7 +102,8 @@ module _ (E : Engine) (laws : Laws E) (n : ℕ) (q : Block) where
             lengths = unfold frameOf in frame-lengths k l (s .lengths);
             ring = piece-other ringLength (slot E n i u) (slot E n c v) _ (l .delay) ne (slot-within l (s .lengths)) (ring-kept k l (s .lengths)) ∙ s .ring;
             audio = λ f. getD-set-other (l .audio) (audioIndex E n k c v) (audioIndex E n f i u) _ nan
-                (λ z. ne (flat-low (channels * n) f k (slot E n i u) (slot E n c v) (flat-lt channels n i u hi hu) (flat-lt channels n c v hc hv) z)) ∙ s .audio f;
+                (λ z. ne (flat-low (channels * n) f k (slot E n i u) (slot E n c v) (flat-lt channels n i u hi hu) (flat-lt channels n c v hc hv) z))
+                ∙ s .audio f;
           })
           (record { lengths = first-lengths w g; ring = refl; audio = λ f. refl })
 
@@ -108,7 +114,9 @@ module _ (E : Engine) (laws : Laws E) (n : ℕ) (q : Block) where
           let x = frames-other w g in
           record {
             lengths = unfold slotOf in slot-lengths w g;
-            rec = piece-other recordWidth (slot E n i u) (slot E n c v) _ (w .records) ne (rw (g .records) (slot-fits E n c v recordWidth hc hv)) (frames-lengths _ w g .rec) ∙ s .rec;
+            rec = piece-other recordWidth (slot E n i u) (slot E n c v) _ (w .records) ne (rw (g .records) (slot-fits E n c v recordWidth hc hv))
+                (frames-lengths _ w g .rec)
+                ∙ s .rec;
             ring = x .ring ∙ s .ring;
             audio = tab-same _ _ (q .frames) (λ f h. x .audio f) ∙ s .audio;
           }
@@ -133,9 +141,11 @@ module _ (E : Engine) (laws : Laws E) (n : ℕ) (q : Block) where
       index-within k h = flat-lt (q .frames) (channels * n) k (slot E n c v) h (flat-lt channels n c v hc hv)
 
       abbrev plainTick : ℕ → Tick
-      plainTick k = tick c (after k .targets) (after k .cursor) (frameAt E n q v k .pitch) (getD (frameAt E n q v k .inputs) c nan) (frameAt E n q v k .steering) (after k .channel c .rec) (after k .channel c .ring)
+      plainTick k =
+          tick c (after k .targets) (after k .cursor) (frameAt E n q v k .pitch) (getD (frameAt E n q v k .inputs) c nan) (frameAt E n q v k .steering)
+          (after k .channel c .rec) (after k .channel c .ring)
 
-      own-tick : (k : ℕ) (l : SlotRun) → k < q .frames → OwnRun k l → tickAt k l ≡ plainTick k
+      own-tick : (k : ℕ) (l : SlotRun) → k < q .frames → OwnRun k l → slotTick k l ≡ plainTick k
       own-tick k l h s =
           let e1 : tg ≡ after k .targets = et ∙ sym (frames-targets E (frameAt E n q v) k p) in
           let e0 : cursorAfter E (p .cursor) 0 ≡ p .cursor = subst (λ (x : ℕ). cursorAfter E x 0 ≡ x) ec ew in
@@ -145,10 +155,10 @@ module _ (E : Engine) (laws : Laws E) (n : ℕ) (q : Block) where
           λ i. tick c (e1 i) (e2 i) (getD (q .pitch) (pitchIndex E n k v) nan) (e3 i) (steeringAt E n q k v) (s .rec i) (s .ring i)
 
       own-frame : (k : ℕ) (l : SlotRun) → k < q .frames → OwnRun k l → OwnRun (suc k) (frameOf E n q tg cur c v k l)
-      unfolding frameOf advance ticked
+      unfolding frameOf advance tickChannel
       own-frame k l h s =
-          let t : tickAt k l ≡ plainTick k = own-tick k l h s in
-          let y : Float = tickAt k l .out in
+          let t : slotTick k l ≡ plainTick k = own-tick k l h s in
+          let y : Float = slotTick k l .out in
           let new : List Float = set (l .audio) (audioIndex E n k c v) y in
           let old : p .channel c .samples ++ tab (λ f. getD new (audioIndex E n f c v) nan) k ≡ after k .channel c .samples
           = ap (λ (x : List Float). p .channel c .samples ++ x)
@@ -159,16 +169,22 @@ module _ (E : Engine) (laws : Laws E) (n : ℕ) (q : Block) where
           record {
             lengths = unfold frameOf in frame-lengths k l (s .lengths);
             rec = ap (λ (x : Tick). x .rec) t;
-            ring = piece-patch ringLength (slot E n c v) _ (l .delay) (slot-within l (s .lengths)) (ring-kept k l (s .lengths)) ∙ ap (λ (x : Tick). x .ring) t;
-            given = sym (append-assoc (p .channel c .samples) (tab (λ f. getD new (audioIndex E n f c v) nan) k) (getD new (audioIndex E n k c v) nan ∷ [])) ∙ (λ i. old i ++ last i ∷ []);
-            ahead = λ f a b. getD-set-other (l .audio) (audioIndex E n k c v) (audioIndex E n f c v) _ nan (frames-differ f k (omega arith)) ∙ s .ahead f (le-of-lt a) b;
+            ring = piece-patch ringLength (slot E n c v) _ (l .delay) (slot-within l (s .lengths)) (ring-kept k l (s .lengths))
+                ∙ ap (λ (x : Tick). x .ring) t;
+            given = sym (append-assoc (p .channel c .samples) (tab (λ f. getD new (audioIndex E n f c v) nan) k) (getD new (audioIndex E n k c v) nan ∷ []))
+                ∙ (λ i. old i ++ last i ∷ []);
+            ahead = λ f a b. getD-set-other (l .audio) (audioIndex E n k c v) (audioIndex E n f c v) _ nan (frames-differ f k (omega arith))
+                ∙ s .ahead f (le-of-lt a) b;
           }
 
       abbrev Before : BlockRun → Type 0
       Before w = SlotHolds c v (p .channel c .rec) (p .channel c .ring) (slotAudio c v (q .audio)) w
 
       abbrev pub After : BlockRun → Type 0
-      After w = (a : List Float) × SlotHolds c v (after (q .frames) .channel c .rec) (after (q .frames) .channel c .ring) a w × (p .channel c .samples ++ a ≡ after (q .frames) .channel c .samples)
+      After w =
+          (a : List Float)
+          × SlotHolds c v (after (q .frames) .channel c .rec) (after (q .frames) .channel c .ring) a w
+          × (p .channel c .samples ++ a ≡ after (q .frames) .channel c .samples)
 
       own-frames : (w : BlockRun) → Before w → OwnRun (q .frames) (framesOf E n q tg cur c v (q .frames) w)
       unfolding framesOf
@@ -207,7 +223,9 @@ module _ (E : Engine) (laws : Laws E) (n : ℕ) (q : Block) where
     targetsAt-length u hu = length-piece targetsWidth u (b .targets) (rw (g .targets) (piece-fits targetsWidth u n hu))
 
     module _ (p : PlainVoice) (et : targetsAt v ≡ p .targets) (ec : b .cursor ≡ p .cursor) (ew : cursorAfter E (b .cursor) 0 ≡ b .cursor) where
-      pub block-slot : (c : ℕ) (hc : c < channels) → piece recordWidth (slot E n c v) (b .records) ≡ p .channel c .rec → piece ringLength (slot E n c v) (b .delay) ≡ p .channel c .ring
+      pub block-slot : (c : ℕ) (hc : c < channels)
+          → piece recordWidth (slot E n c v) (b .records) ≡ p .channel c .rec
+          → piece ringLength (slot E n c v) (b .delay) ≡ p .channel c .ring
           → After (targetsAt v) (targetsAt-length v hv) (b .cursor) c v hc hv p et ec ew (blockOf E n q b)
       unfolding blockOf
       block-slot c hc er ed =
@@ -218,7 +236,8 @@ module _ (E : Engine) (laws : Laws E) (n : ℕ) (q : Block) where
           (λ z s. slot-own (targetsAt v) (targetsAt-length v hv) (b .cursor) c v hc hv p et ec ew z s)
           (λ u z hu ne s. (s .0, other c u hc hu (voices-differ E n c v c u hv hu (λ e. ne (sym e))) _ _ _ z (s .1), s .2))
           hv h)
-          (λ i y hi ne h. upto-keep A _ n y (λ u z hu s. (s .0, other i u hi hu (channels-differ E n c v i u hv hu (λ e. ne (sym e))) _ _ _ z (s .1), s .2)) h)
+          (λ i y hi ne h. upto-keep A _ n y
+          (λ u z hu s. (s .0, other i u hi hu (channels-differ E n c v i u hv hu (λ e. ne (sym e))) _ _ _ z (s .1), s .2)) h)
           hc
           (record { lengths = record { records = g .records; delay = g .delay; audio = la }; rec = er; ring = ed; audio = refl })
         where
@@ -228,5 +247,6 @@ module _ (E : Engine) (laws : Laws E) (n : ℕ) (q : Block) where
           A : BlockRun → Type 0
           A = After (targetsAt v) (targetsAt-length v hv) (b .cursor) c v hc hv p et ec ew
 
-          other : (i u : ℕ) → i < channels → (hu : u < n) → slot E n c v ≢ slot E n i u → (r d a : List Float) (z : BlockRun) → SlotHolds c v r d a z → SlotHolds c v r d a (slotOf E n q (targetsAt u) (b .cursor) i u z)
+          other : (i u : ℕ) → i < channels → (hu : u < n) → slot E n c v ≢ slot E n i u
+              → (r d a : List Float) (z : BlockRun) → SlotHolds c v r d a z → SlotHolds c v r d a (slotOf E n q (targetsAt u) (b .cursor) i u z)
           other i u hi hu ne r d a z s = slot-other (targetsAt u) (targetsAt-length u hu) (b .cursor) i u hi hu c v hc hv ne r d a z s

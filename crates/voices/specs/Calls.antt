@@ -5,9 +5,10 @@ use Prim.Native.Nat.{ℕ, _+_, _*_, _%_, _^_, _<_}
 use mathlib.Core.Bool.{Bool, true, false, cond, _&&_}
 use mathlib.Core.Option.{Option, none, some}
 use mathlib.Core.List.{List, [], _∷_, _++_}
-use lib.Ieee.{Float, nan, binary32, ofBits}
+use lib.Ieee.{Float}
 use lib.Dec.{ltb, leb, eqb}
-use lib.ListN.{length, getD, set, replicate}
+use lib.ListN.{length, set, replicate}
+use Rattle.lane.specs.Floats.{_‼_, zero}
 use Rattle.parts.specs.Parts.{upto, piece, patch}
 
 -- ---- widths of the lent lists (A bank is opened)
@@ -30,10 +31,6 @@ leastFrames = 1
 
 abbrev pub mostFrames : ℕ
 mostFrames = 4096
-
--- +0.0, which start writes to states and rings
-abbrev pub positiveZero : Float
-positiveZero = ofBits binary32 0
 
 -- ---- checks
 
@@ -141,12 +138,12 @@ module _ (E : Engine) where
   unfoldable pub cursorAfter : ℕ → ℕ → ℕ
   cursorAfter cur k = cond lines ((cur + k) % 2 ^ 64) cur
 
-  -- a slot started: targets as smoothed and morph numbers, states and ring zero
+  -- a slot started: targets as smoothed and morph numbers, states and ring +0
   abbrev pub startRecord : List Float → List Float
-  startRecord tg = tg ++ replicate statesWidth positiveZero
+  startRecord tg = tg ++ replicate statesWidth zero
 
   abbrev pub startRing : List Float
-  startRing = replicate ringLength positiveZero
+  startRing = replicate ringLength zero
 
   module _ (n : ℕ) where
     -- ---- places in the flat lists: the stride is n
@@ -235,18 +232,17 @@ module _ (E : Engine) where
     -- ---- block (One block goes through): for each channel and voice, frame by frame
 
     abbrev pub steeringAt : Block → (frame voice : ℕ) → Steering
-    steeringAt q k v = cond (q .steered) (some (getD (q .x) (pitchIndex k v) nan, getD (q .y) (pitchIndex k v) nan)) none
+    steeringAt q k v = cond (q .steered) (some (q .x ‼ pitchIndex k v, q .y ‼ pitchIndex k v)) none
 
     -- the tick of frame k, channel c and voice v, with the voice's targets tg and the cursor before the block
-    abbrev pub tickOf : Block → (tg : List Float) (cursor c v k : ℕ) (audio rec ring : List Float) → Tick
-    tickOf q tg cur c v k audio r d =
-        tick c tg (cursorAfter cur k) (getD (q .pitch) (pitchIndex k v) nan) (getD audio (audioIndex k c v) nan) (steeringAt q k v) r d
+    abbrev pub tickAt : Block → (tg : List Float) (cursor c v k : ℕ) (audio rec ring : List Float) → Tick
+    tickAt q tg cur c v k audio r d = tick c tg (cursorAfter cur k) (q .pitch ‼ pitchIndex k v) (audio ‼ audioIndex k c v) (steeringAt q k v) r d
 
     -- what it leaves: the record in hand, the slot's ring and the frame's sample
     unfoldable pub frameOf : Block → (tg : List Float) (cursor c v k : ℕ) → SlotRun → SlotRun
     frameOf q tg cur c v k w =
         let s = slot c v in
-        let t = tickOf q tg cur c v k (w .audio) (w .rec) (piece ringLength s (w .delay)) in
+        let t = tickAt q tg cur c v k (w .audio) (w .rec) (piece ringLength s (w .delay)) in
         record { rec = t .rec; delay = patch ringLength s (t .ring) (w .delay); audio = set (w .audio) (audioIndex k c v) (t .out) }
 
     -- the first k frames of a slot
@@ -271,7 +267,10 @@ module _ (E : Engine) where
     accepted (callBlock q) r =
         let w = blockOf q (r .bank) in
         let cur = cursorAfter (r .bank .cursor) (q .frames) in
-        record { bank = record { targets = r .bank .targets; records = w .records; delay = w .delay; cursor = cur }; log = rendered cur (q .frames) (w .audio) ∷ r .log }
+        record {
+          bank = record { targets = r .bank .targets; records = w .records; delay = w .delay; cursor = cur };
+          log = rendered cur (q .frames) (w .audio) ∷ r .log;
+        }
 
     -- a refusal answers its number alone; lists and cursor keep their values
     abbrev pub perform : Check → Call S → Run → Run

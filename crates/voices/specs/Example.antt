@@ -9,8 +9,10 @@ use lib.Ieee.{Float, nan, binary32, add, ofBits}
 use lib.Dec.{ltb}
 use lib.ListN.{getD, set, replicate, length-set, length-replicate}
 use Rattle.parts.specs.Parts.{tab, piece, patch}
-use Rattle.voices.specs.Calls.{targetsWidth, recordWidth, fine, refused, check, _then_, Engine, Laws, Bank, Block, Call, callSet, callStart, callBlock, cursorAfter, setOf, startSlot, startOf, openOf, frameOf, framesOf, slotOf, blockOf, slot, openVerdict, verdict, Run, run, opened}
-use Rattle.voices.specs.Feed.{Frame, Event, eventStart, eventFrame, started, fresh, ticked, advance, voiceOf, feed, samplesOf}
+use Rattle.voices.specs.Calls.{targetsWidth, recordWidth, fine, refused, check, _then_, Engine, Laws, Bank, Block, Call, callSet, callStart}
+use Rattle.voices.specs.Calls.{callBlock, cursorAfter, setOf, startSlot, startOf, openOf, frameOf, framesOf, slotOf, blockOf, slot, openVerdict}
+use Rattle.voices.specs.Calls.{verdict, Run, run, opened}
+use Rattle.voices.specs.Feed.{Frame, Event, eventStart, eventFrame, started, fresh, tickChannel, advance, voiceOf, feed, samplesOf}
 use Rattle.voices.specs.Voice.{TwoBanks, corollary}
 
 -- two channels, rings of four; a tick sums the pitches in the record and adds to its input that of three frames ago
@@ -78,7 +80,8 @@ frame1 : Frame
 frame1 = record { pitch = number 4; inputs = number 7 ∷ number 10 ∷ []; steering = none }
 
 feed-computes : feedOfOne ≡ eventFrame frame0 ∷ eventFrame frame1 ∷ eventStart ∷ eventFrame frame0 ∷ eventFrame frame1 ∷ []
-unfolding exampleEngine check _then_ lists block calls feedOfOne frame0 frame1 openOf startOf startSlot setOf blockOf slotOf framesOf frameOf piece patch cursorAfter
+unfolding exampleEngine check _then_ lists block calls feedOfOne frame0 frame1
+    openOf startOf startSlot setOf blockOf slotOf framesOf frameOf piece patch cursorAfter
 feed-computes = refl
 
 -- voice 1 and the plain voice of its feed, on the second channel
@@ -87,5 +90,6 @@ side-by-side :
     × (piece 4 (slot exampleEngine 3 1 1) (after .bank .delay) ≡ voiceOf exampleEngine feedOfOne .channel 1 .ring)
     × (samplesOf exampleEngine 3 1 1 (after .log) ≡ voiceOf exampleEngine feedOfOne .channel 1 .samples)
     × (after .bank .cursor ≡ voiceOf exampleEngine feedOfOne .cursor)
-unfolding exampleEngine check _then_ lists block calls after feedOfOne fresh started ticked advance openOf startOf startSlot setOf blockOf slotOf framesOf frameOf piece patch cursorAfter
+unfolding exampleEngine check _then_ lists block calls after feedOfOne fresh started tickChannel advance
+    openOf startOf startSlot setOf blockOf slotOf framesOf frameOf piece patch cursorAfter
 side-by-side = (refl, refl, refl, refl)

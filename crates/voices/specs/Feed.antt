@@ -4,11 +4,13 @@ use mathlib.Core.Path.{_≡_}
 use Prim.Native.Nat.{ℕ, suc, _+_, _<_}
 use mathlib.Core.Bool.{cond}
 use mathlib.Core.List.{List, [], _∷_, _++_}
-use lib.Ieee.{Float, nan}
+use lib.Ieee.{Float}
 use lib.Dec.{eqb}
-use lib.ListN.{getD}
+use Rattle.lane.specs.Floats.{_‼_}
 use Rattle.parts.specs.Parts.{tab, piece}
-use Rattle.voices.specs.Calls.{targetsWidth, recordWidth, Check, fine, refused, Steering, Engine, Block, Call, callSet, callStart, callBlock, Answer, refusedCall, kept, rendered, Run, cursorAfter, startRecord, startRing, slot, pitchIndex, audioIndex, steeringAt, verdict, call}
+use Rattle.voices.specs.Calls.{targetsWidth, recordWidth, Check, fine, refused, Steering, Engine, Block, Call, callSet, callStart, callBlock}
+use Rattle.voices.specs.Calls.{Answer, refusedCall, kept, rendered, Run, cursorAfter, startRecord, startRing, slot, pitchIndex, audioIndex}
+use Rattle.voices.specs.Calls.{steeringAt, verdict, call}
 
 -- one frame: the voice's pitch, its input sample on each channel, and its x and y or that it is unsteered
 pub record Frame : Type 0 where
@@ -59,16 +61,20 @@ module _ (E : Engine) where
   fresh = record { targets = targetsOf defaults; cursor = 0; channel = λ c. started (targetsOf defaults) [] }
 
   -- one tick of channel c
-  unfoldable pub ticked : Frame → (c : ℕ) (targets : List Float) (cursor : ℕ) → Channel → Channel
-  ticked f c tg cur w =
-      let t = tick c tg cur (f .pitch) (getD (f .inputs) c nan) (f .steering) (w .rec) (w .ring) in
+  unfoldable pub tickChannel : Frame → (c : ℕ) (targets : List Float) (cursor : ℕ) → Channel → Channel
+  tickChannel f c tg cur w =
+      let t = tick c tg cur (f .pitch) (f .inputs ‼ c) (f .steering) (w .rec) (w .ring) in
       record { rec = t .rec; ring = t .ring; samples = w .samples ++ t .out ∷ [] }
 
   -- a set replaces the targets; a start starts every channel; a frame ticks every channel once, then the cursor moves on by one
   unfoldable pub advance : Event S → PlainVoice → PlainVoice
   advance (eventSet s) p = record { targets = targetsOf s; cursor = p .cursor; channel = p .channel }
   advance eventStart p = record { targets = p .targets; cursor = p .cursor; channel = λ c. started (p .targets) (p .channel c .samples) }
-  advance (eventFrame f) p = record { targets = p .targets; cursor = cursorAfter E (p .cursor) 1; channel = λ c. ticked f c (p .targets) (p .cursor) (p .channel c) }
+  advance (eventFrame f) p = record {
+    targets = p .targets;
+    cursor = cursorAfter E (p .cursor) 1;
+    channel = λ c. tickChannel f c (p .targets) (p .cursor) (p .channel c);
+  }
 
   abbrev pub play : List (Event S) → PlainVoice → PlainVoice
   play [] p = p
@@ -83,8 +89,8 @@ module _ (E : Engine) where
 
     abbrev pub frameAt : Block → (v k : ℕ) → Frame
     frameAt q v k = record {
-      pitch = getD (q .pitch) (pitchIndex E n k v) nan;
-      inputs = tab (λ c. getD (q .audio) (audioIndex E n k c v) nan) channels;
+      pitch = q .pitch ‼ pitchIndex E n k v;
+      inputs = tab (λ c. q .audio ‼ audioIndex E n k c v) channels;
       steering = steeringAt E n q k v;
     }
 
@@ -107,7 +113,7 @@ module _ (E : Engine) where
     samplesOf v c [] = []
     samplesOf v c (refusedCall k ∷ l) = samplesOf v c l
     samplesOf v c (kept cur ∷ l) = samplesOf v c l
-    samplesOf v c (rendered cur f a ∷ l) = samplesOf v c l ++ tab (λ k. getD a (audioIndex E n k c v) nan) f
+    samplesOf v c (rendered cur f a ∷ l) = samplesOf v c l ++ tab (λ k. a ‼ audioIndex E n k c v) f
 
     -- after the run r, voice v is the plain voice of the feed es
     pub record Same (v : ℕ) (r : Run) (es : List (Event S)) : Type 0 where

@@ -1,3 +1,4 @@
+-- For the proofs: nothing here must be believed.
 -- The plain voice over a feed that is cut in two, and over a block's frames; the cursor over k frames.
 -- By induction over the feed or the frames. Assumes nothing.
 use mathlib.Core.Path.{_≡_, refl, sym, ap, _∙_}
@@ -64,4 +65,7 @@ module _ (E : Engine) where
     pub frames-cursor : (k : ℕ) (p : PlainVoice) → cursorAfter E (p .cursor) 0 ≡ p .cursor → afterFrames k p .cursor ≡ cursorAfter E (p .cursor) k
     unfolding advance
     frames-cursor zero p e = sym e
-    frames-cursor (suc k) p e = ap (λ (x : ℕ). cursorAfter E x 1) (frames-cursor k p e) ∙ cursor-add (p .cursor) k 1 ∙ ap (cursorAfter E (p .cursor)) (add-one k)
+    frames-cursor (suc k) p e =
+        ap (λ (x : ℕ). cursorAfter E x 1) (frames-cursor k p e)
+        ∙ cursor-add (p .cursor) k 1
+        ∙ ap (cursorAfter E (p .cursor)) (add-one k)

@@ -1,3 +1,4 @@
+-- For the proofs: nothing here must be believed.
 -- Slots of the flat lists, and start: a started slot holds its voice's targets and zeros, every other slot keeps its record and ring.
 -- Each turn of start replaces one piece, and slots of two channels or two voices differ. Assumes nothing.
 use mathlib.Core.Path.{_≡_, refl, sym, _∙_, subst}
@@ -7,9 +8,10 @@ use native.Mathlib.Omega.{arith}
 use mathlib.Core.List.{List}
 use lib.Ieee.{Float}
 use lib.ListN.{length, replicate, length-append, length-replicate}
+use Rattle.lane.specs.Floats.{zero}
 use Rattle.parts.specs.Parts.{piece}
 use Rattle.parts.specs.Laws.{upto-keep, upto-focus, flat-low, flat-high, flat-lt, piece-fits, length-piece, length-patch, piece-patch, piece-other}
-use Rattle.voices.specs.Calls.{targetsWidth, statesWidth, recordWidth, positiveZero, Engine, Bank, startRecord, startRing, slot, startSlot, startOf}
+use Rattle.voices.specs.Calls.{targetsWidth, statesWidth, recordWidth, Engine, Bank, startRecord, startRing, slot, startSlot, startOf}
 use Rattle.voices.specs.Accepted.{Lengths}
 
 module _ (E : Engine) (n : ℕ) where
@@ -32,42 +34,50 @@ module _ (E : Engine) (n : ℕ) where
 
   pub startOf-keeps : (v : ℕ) (b : Bank) → (startOf E n v b .targets ≡ b .targets) × (startOf E n v b .cursor ≡ b .cursor)
   unfolding startOf startSlot
-  startOf-keeps v b = upto-keep (λ (x : Bank). (x .targets ≡ b .targets) × (x .cursor ≡ b .cursor)) (startSlot E n v) channels b (λ k y h e. e) (refl, refl)
+  startOf-keeps v b =
+      upto-keep (λ (x : Bank). (x .targets ≡ b .targets) × (x .cursor ≡ b .cursor)) (startSlot E n v) channels b (λ k y h e. e) (refl, refl)
 
   module _ (v : ℕ) (hv : v < n) where
     start-length : (b : Bank) → Lengths E n b → length (startRecord E (piece targetsWidth v (b .targets))) ≡ recordWidth
     start-length b g =
-        let l : length (piece targetsWidth v (b .targets)) ≡ targetsWidth = length-piece targetsWidth v (b .targets) (rw (g .targets) (piece-fits targetsWidth v n hv)) in
-        length-append (piece targetsWidth v (b .targets)) (replicate statesWidth positiveZero) ∙ omega (arith, length-replicate statesWidth positiveZero)
+        let l : length (piece targetsWidth v (b .targets)) ≡ targetsWidth
+        = length-piece targetsWidth v (b .targets) (rw (g .targets) (piece-fits targetsWidth v n hv)) in
+        length-append (piece targetsWidth v (b .targets)) (replicate statesWidth zero) ∙ omega (arith, length-replicate statesWidth zero)
 
     startSlot-lengths : (c : ℕ) (b : Bank) → c < channels → Lengths E n b → Lengths E n (startSlot E n v c b)
     unfolding startSlot
     startSlot-lengths c b hc g = record {
       targets = g .targets;
       records = length-patch recordWidth (slot E n c v) _ (b .records) (rw (g .records) (slot-fits c v recordWidth hc hv)) (start-length b g) ∙ g .records;
-      delay = length-patch ringLength (slot E n c v) _ (b .delay) (rw (g .delay) (slot-fits c v ringLength hc hv)) (length-replicate ringLength positiveZero) ∙ g .delay;
+      delay = length-patch ringLength (slot E n c v) _ (b .delay) (rw (g .delay) (slot-fits c v ringLength hc hv)) (length-replicate ringLength zero)
+          ∙ g .delay;
     }
 
     pub startOf-lengths : (b : Bank) → Lengths E n b → Lengths E n (startOf E n v b)
     unfolding startOf
     startOf-lengths b g = upto-keep (Lengths E n) (startSlot E n v) channels b (λ k y h e. startSlot-lengths k y h e) g
 
-    startSlot-other : (c i u : ℕ) (r d : List Float) (b : Bank) → c < channels → slot E n i u ≢ slot E n c v → Slot i u r d b → Slot i u r d (startSlot E n v c b)
+    startSlot-other : (c i u : ℕ) (r d : List Float) (b : Bank) → c < channels → slot E n i u ≢ slot E n c v
+        → Slot i u r d b → Slot i u r d (startSlot E n v c b)
     unfolding startSlot
     startSlot-other c i u r d b hc ne s =
         let g = s .lengths in
         record {
           lengths = startSlot-lengths c b hc g;
-          rec = piece-other recordWidth (slot E n i u) (slot E n c v) _ (b .records) ne (rw (g .records) (slot-fits c v recordWidth hc hv)) (start-length b g) ∙ s .rec;
-          ring = piece-other ringLength (slot E n i u) (slot E n c v) _ (b .delay) ne (rw (g .delay) (slot-fits c v ringLength hc hv)) (length-replicate ringLength positiveZero) ∙ s .ring;
+          rec = piece-other recordWidth (slot E n i u) (slot E n c v) _ (b .records) ne (rw (g .records) (slot-fits c v recordWidth hc hv)) (start-length b g)
+              ∙ s .rec;
+          ring = piece-other ringLength (slot E n i u) (slot E n c v) _ (b .delay) ne (rw (g .delay) (slot-fits c v ringLength hc hv))
+              (length-replicate ringLength zero)
+              ∙ s .ring;
         }
 
-    startSlot-own : (c : ℕ) (b : Bank) → c < channels → Lengths E n b → Slot c v (startRecord E (piece targetsWidth v (b .targets))) (startRing E) (startSlot E n v c b)
+    startSlot-own : (c : ℕ) (b : Bank) → c < channels → Lengths E n b
+        → Slot c v (startRecord E (piece targetsWidth v (b .targets))) (startRing E) (startSlot E n v c b)
     unfolding startSlot
     startSlot-own c b hc g = record {
       lengths = startSlot-lengths c b hc g;
       rec = piece-patch recordWidth (slot E n c v) _ (b .records) (rw (g .records) (slot-fits c v recordWidth hc hv)) (start-length b g);
-      ring = piece-patch ringLength (slot E n c v) _ (b .delay) (rw (g .delay) (slot-fits c v ringLength hc hv)) (length-replicate ringLength positiveZero);
+      ring = piece-patch ringLength (slot E n c v) _ (b .delay) (rw (g .delay) (slot-fits c v ringLength hc hv)) (length-replicate ringLength zero);
     }
 
     -- a start of v leaves every slot of another voice as it was
@@ -80,11 +90,14 @@ module _ (E : Engine) (n : ℕ) where
         (record { lengths = g; rec = refl; ring = refl })
 
     -- and starts each slot of v
-    pub startOf-own : (i : ℕ) (b : Bank) → i < channels → Lengths E n b → Slot i v (startRecord E (piece targetsWidth v (b .targets))) (startRing E) (startOf E n v b)
+    pub startOf-own : (i : ℕ) (b : Bank) → i < channels → Lengths E n b
+        → Slot i v (startRecord E (piece targetsWidth v (b .targets))) (startRing E) (startOf E n v b)
     unfolding startOf
     startOf-own i b hi g =
-        upto-focus (λ (x : Bank). Lengths E n x × (x .targets ≡ b .targets)) (Slot i v (startRecord E (piece targetsWidth v (b .targets))) (startRing E)) (startSlot E n v) channels i b
+        upto-focus (λ (x : Bank). Lengths E n x × (x .targets ≡ b .targets)) (Slot i v (startRecord E (piece targetsWidth v (b .targets))) (startRing E))
+        (startSlot E n v) channels i b
         (λ c y hc ne h. (startSlot-lengths c y hc (h .0), unfold startSlot in h .1))
-        (λ y h. subst (λ (t : List Float). Slot i v (startRecord E (piece targetsWidth v t)) (startRing E) (startSlot E n v i y)) (h .1) (startSlot-own i y hi (h .0)))
+        (λ y h. subst (λ (t : List Float). Slot i v (startRecord E (piece targetsWidth v t)) (startRing E) (startSlot E n v i y)) (h .1)
+        (startSlot-own i y hi (h .0)))
         (λ c y hc ne s. startSlot-other c i v _ _ y hc (channels-differ i v c v hv hv (λ e. ne (sym e))) s)
         hi (g, refl)

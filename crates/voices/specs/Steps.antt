@@ -1,5 +1,7 @@
--- Open makes every voice the fresh plain voice; a call keeps a voice equal to the plain voice that takes what the call adds to the feed; so does a list of calls.
--- A refused call changes nothing, an accepted one has measured the lengths. By cases of the call, then by induction over the list. Assumes nothing.
+-- For the proofs: nothing here must be believed.
+-- Open makes every voice the fresh plain voice; a call keeps a voice equal to the plain voice that takes what the call adds to the feed; so does a
+-- list of calls. A refused call changes nothing, an accepted one has measured the lengths. By cases of the call, then by induction over the list.
+-- Assumes nothing.
 use mathlib.Core.Path.{_≡_, refl, sym, ap, ap₂, _∙_, subst}
 use mathlib.Core.Logic.{_≢_}
 use Prim.Native.Nat.{ℕ, _+_, _*_, _<_}
@@ -13,8 +15,11 @@ use lib.ListN.{length}
 use borrow.Author.Tests.{eqb-true, eqb-false}
 use Rattle.parts.specs.Parts.{piece}
 use Rattle.parts.specs.Laws.{upto-focus, piece-fits, length-patch, piece-patch, piece-other}
-use Rattle.voices.specs.Calls.{targetsWidth, recordWidth, Check, fine, refused, Engine, Laws, Bank, Block, Call, callSet, callStart, callBlock, Run, cursorAfter, startRecord, slot, setOf, startOf, openOf, blockOf, openVerdict, verdict, accepted, perform, call, run}
-use Rattle.voices.specs.Feed.{eventSet, eventStart, frameCount, framesRendered, PlainVoice, started, fresh, advance, play, frameAt, events, feed, samplesOf}
+use Rattle.voices.specs.Calls.{targetsWidth, recordWidth, Check, fine, refused, Engine, Laws, Bank, Block, Call, callSet, callStart, callBlock}
+use Rattle.voices.specs.Calls.{Run, cursorAfter, startRecord, slot, setOf, startOf, openOf, blockOf, openVerdict, verdict, accepted, perform}
+use Rattle.voices.specs.Calls.{call, run}
+use Rattle.voices.specs.Feed.{eventSet, eventStart, frameCount, framesRendered, PlainVoice, started, fresh, advance, play, frameAt, events}
+use Rattle.voices.specs.Feed.{feed, samplesOf}
 use Rattle.voices.specs.Accepted.{Lengths, SetAccepted, StartAccepted, BlockAccepted, open-accepted, set-accepted, start-accepted, block-accepted}
 use Rattle.voices.specs.Slots.{startOf-keeps, startOf-lengths, startOf-other, startOf-own}
 use Rattle.voices.specs.Plain.{cursor-add, cursor-zero, play-append, play-frames, count-append, count-frames, frames-targets, frames-cursor}
@@ -41,15 +46,18 @@ module _ (E : Engine) (laws : Laws E) (n : ℕ) where
     delay = g .delay;
   }
 
-  set-targets : (v : ℕ) (s : S) (b : Bank) → v < n → length (b .targets) ≡ n * targetsWidth → piece targetsWidth v (setOf E n v s b .targets) ≡ targetsOf s
+  set-targets : (v : ℕ) (s : S) (b : Bank) → v < n → length (b .targets) ≡ n * targetsWidth
+      → piece targetsWidth v (setOf E n v s b .targets) ≡ targetsOf s
   unfolding setOf
   set-targets v s b hv l = piece-patch targetsWidth v (targetsOf s) (b .targets) (rw l (piece-fits targetsWidth v n hv)) (targets-length s)
 
-  set-own : (v : ℕ) (s : S) (b : Bank) (p : PlainVoice) → v < n → length (b .targets) ≡ n * targetsWidth → VoiceIs v b p → VoiceIs v (setOf E n v s b) (advance E (eventSet s) p)
+  set-own : (v : ℕ) (s : S) (b : Bank) (p : PlainVoice) → v < n → length (b .targets) ≡ n * targetsWidth
+      → VoiceIs v b p → VoiceIs v (setOf E n v s b) (advance E (eventSet s) p)
   unfolding setOf advance
   set-own v s b p hv l h = record { targets = unfold setOf in set-targets v s b hv l; cursor = h .cursor; wrapped = h .wrapped; rec = h .rec; ring = h .ring }
 
-  set-other : (u v : ℕ) (s : S) (b : Bank) (p : PlainVoice) → u < n → v ≢ u → length (b .targets) ≡ n * targetsWidth → VoiceIs v b p → VoiceIs v (setOf E n u s b) p
+  set-other : (u v : ℕ) (s : S) (b : Bank) (p : PlainVoice) → u < n → v ≢ u → length (b .targets) ≡ n * targetsWidth
+      → VoiceIs v b p → VoiceIs v (setOf E n u s b) p
   unfolding setOf
   set-other u v s b p hu ne l h = record {
     targets = piece-other targetsWidth v u (targetsOf s) (b .targets) ne (rw l (piece-fits targetsWidth u n hu)) (targets-length s) ∙ h .targets;
@@ -86,10 +94,15 @@ module _ (E : Engine) (laws : Laws E) (n : ℕ) where
   pub open-own : (v : ℕ) (b : Bank) → openVerdict E n b ≡ fine → v < n → VoiceIs v (openOf E n b) (fresh E)
   unfolding openOf
   open-own v b ok hv =
-      upto-focus (λ (x : Bank). Lengths E n x × (x .cursor ≡ 0)) (λ (x : Bank). Lengths E n x × VoiceIs v x (fresh E)) (λ u x. startOf E n u (setOf E n u defaults x)) n v _
+      upto-focus (λ (x : Bank). Lengths E n x × (x .cursor ≡ 0)) (λ (x : Bank). Lengths E n x × VoiceIs v x (fresh E))
+      (λ u x. startOf E n u (setOf E n u defaults x)) n v _
       (λ u x hu ne h. (lengths u x hu (h .0), cursor0 u x (h .1)))
       (λ x h. (lengths v x hv (h .0), hit x (h .0) (h .1)))
-      (λ u x hu ne h. (lengths u x hu (h .0), start-other u v _ _ hu hv (λ e. ne (sym e)) (set-lengths u defaults x hu (h .0)) (set-other u v defaults x _ hu (λ e. ne (sym e)) (h .0 .targets) (h .1))))
+      (λ u x hu ne h. (
+        lengths u x hu (h .0),
+        start-other u v _ _ hu hv (λ e. ne (sym e)) (set-lengths u defaults x hu (h .0))
+            (set-other u v defaults x _ hu (λ e. ne (sym e)) (h .0 .targets) (h .1)),
+      ))
       hv (record { targets = g .targets; records = g .records; delay = g .delay }, refl) .1
     where
       g : Lengths E n b
@@ -103,10 +116,12 @@ module _ (E : Engine) (laws : Laws E) (n : ℕ) where
 
       hit : (x : Bank) → Lengths E n x → x .cursor ≡ 0 → VoiceIs v (startOf E n v (setOf E n v defaults x)) (fresh E)
       hit x h e = unfold fresh started in record {
-        targets = ap (λ (t : List Float). piece targetsWidth v t) (startOf-keeps E n v (setOf E n v defaults x) .0) ∙ set-targets v defaults x hv (h .targets);
+        targets = ap (λ (t : List Float). piece targetsWidth v t) (startOf-keeps E n v (setOf E n v defaults x) .0)
+            ∙ set-targets v defaults x hv (h .targets);
         cursor = cursor0 v x e;
         wrapped = subst (λ (k : ℕ). cursorAfter E k 0 ≡ k) (sym (cursor0 v x e)) (cursor-zero E);
-        rec = λ c hc. startOf-own E n v hv c (setOf E n v defaults x) hc (set-lengths v defaults x hv h) .rec ∙ ap (λ (t : List Float). startRecord E t) (set-targets v defaults x hv (h .targets));
+        rec = λ c hc. startOf-own E n v hv c (setOf E n v defaults x) hc (set-lengths v defaults x hv h) .rec
+            ∙ ap (λ (t : List Float). startRecord E t) (set-targets v defaults x hv (h .targets));
         ring = λ c hc. startOf-own E n v hv c (setOf E n v defaults x) hc (set-lengths v defaults x hv h) .ring;
       }
 
@@ -127,7 +142,8 @@ module _ (E : Engine) (laws : Laws E) (n : ℕ) where
 
         go : (t : Bool) → eqb u v ≡ t → Invariant v (accepted E n (callSet u s) r) (play E (cond t (eventSet s ∷ []) []) p)
         go true q = record {
-          voice = subst (λ (x : ℕ). VoiceIs v (setOf E n x s (r .bank)) (advance E (eventSet s) p)) (sym (eqb-true u v q)) (set-own v s (r .bank) p hv (a .targets) (i .voice));
+          voice = subst (λ (x : ℕ). VoiceIs v (setOf E n x s (r .bank)) (advance E (eventSet s) p)) (sym (eqb-true u v q))
+              (set-own v s (r .bank) p hv (a .targets) (i .voice));
           samples = unfold advance in i .samples;
         }
         go false q = record { voice = set-other u v s (r .bank) p (a .voice) (λ z. eqb-false u v q (sym z)) (a .targets) (i .voice); samples = i .samples }
@@ -140,7 +156,8 @@ module _ (E : Engine) (laws : Laws E) (n : ℕ) where
 
         go : (t : Bool) → eqb u v ≡ t → Invariant v (accepted E n (callStart u) r) (play E (cond t (eventStart ∷ []) []) p)
         go true q = record {
-          voice = subst (λ (x : ℕ). VoiceIs v (startOf E n x (r .bank)) (advance E eventStart p)) (sym (eqb-true u v q)) (start-own v (r .bank) p hv (a .lengths) (i .voice));
+          voice = subst (λ (x : ℕ). VoiceIs v (startOf E n x (r .bank)) (advance E eventStart p)) (sym (eqb-true u v q))
+              (start-own v (r .bank) p hv (a .lengths) (i .voice));
           samples = unfold advance started in i .samples;
         }
         go false q = record { voice = start-other u v (r .bank) p (a .voice) hv (λ z. eqb-false u v q (sym z)) (a .lengths) (i .voice); samples = i .samples }
@@ -167,10 +184,12 @@ module _ (E : Engine) (laws : Laws E) (n : ℕ) where
         a = block-accepted E n q (r .bank) e
 
         d : (c : ℕ) (hc : c < channels)
-            → After E laws n q (piece targetsWidth v (r .bank .targets)) (targetsAt-length E laws n q (r .bank) (a .lengths) (a .audio) v hv v hv) (r .bank .cursor) c v hc hv p (h .targets) (h .cursor) (h .wrapped) (blockOf E n q (r .bank))
+            → After E laws n q (piece targetsWidth v (r .bank .targets)) (targetsAt-length E laws n q (r .bank) (a .lengths) (a .audio) v hv v hv)
+            (r .bank .cursor) c v hc hv p (h .targets) (h .cursor) (h .wrapped) (blockOf E n q (r .bank))
         d c hc = block-slot E laws n q (r .bank) (a .lengths) (a .audio) v hv p (h .targets) (h .cursor) (h .wrapped) c hc (h .rec c hc) (h .ring c hc)
 
-    step : (x : Call S) (r : Run) (p : PlainVoice) (k : Check) → verdict E n x (r .bank) ≡ k → Invariant v r p → Invariant v (perform E n k x r) (play E (events E n k v x) p)
+    step : (x : Call S) (r : Run) (p : PlainVoice) (k : Check) → verdict E n x (r .bank) ≡ k
+        → Invariant v r p → Invariant v (perform E n k x r) (play E (events E n k v x) p)
     step x r p (refused k) e i = record { voice = i .voice; samples = i .samples }
     step (callSet u s) r p fine e i = step-set u s r p e i
     step (callStart u) r p fine e i = step-start u r p e i
@@ -180,11 +199,13 @@ module _ (E : Engine) (laws : Laws E) (n : ℕ) where
     pub steps : (xs : List (Call S)) (r : Run) (p : PlainVoice) → Invariant v r p → Invariant v (run E n xs r) (play E (feed E n v xs r) p)
     steps [] r p i = i
     steps (x ∷ xs) r p i =
-        subst (λ (z : PlainVoice). Invariant v (run E n xs (call E n x r)) z) (sym (play-append E (events E n (verdict E n x (r .bank)) v x) (feed E n v xs (call E n x r)) p))
+        subst (λ (z : PlainVoice). Invariant v (run E n xs (call E n x r)) z)
+        (sym (play-append E (events E n (verdict E n x (r .bank)) v x) (feed E n v xs (call E n x r)) p))
         (steps xs (call E n x r) (play E (events E n (verdict E n x (r .bank)) v x) p) (step x r p (verdict E n x (r .bank)) refl i))
 
   -- ---- the frames rendered are those of the feed
-  count-step : (x : Call S) (v : ℕ) (r : Run) (k : Check) → framesRendered (perform E n k x r .log) ≡ framesRendered (r .log) + frameCount (events E n k v x)
+  count-step : (x : Call S) (v : ℕ) (r : Run) (k : Check)
+      → framesRendered (perform E n k x r .log) ≡ framesRendered (r .log) + frameCount (events E n k v x)
   count-step x v r (refused k) = omega arith
   count-step (callSet u s) v r fine = go (eqb u v)
     where
@@ -202,4 +223,8 @@ module _ (E : Engine) (laws : Laws E) (n : ℕ) where
   count-steps [] v r = omega arith
   count-steps (x ∷ xs) v r =
       count-steps xs v (call E n x r)
-      ∙ omega (arith, count-step x v r (verdict E n x (r .bank)), count-append E (events E n (verdict E n x (r .bank)) v x) (feed E n v xs (call E n x r)))
+      ∙ omega (
+        arith,
+        count-step x v r (verdict E n x (r .bank)),
+        count-append E (events E n (verdict E n x (r .bank)) v x) (feed E n v xs (call E n x r)),
+      )

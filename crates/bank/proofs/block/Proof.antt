@@ -33,16 +33,17 @@ run-block-requires c κs =
     let a = c .before .before .before .before .before .before .before .before .before .before .before .before .before .before .before .before .before .before .before .before .before .before .before .before .args in
     let k = known (c .before .before .before .before .before .before .before .before .before .before .before) in
     let s = numbers (c .before .before .before .before .before .before .before .before .before .before .before) in
-    let len = c .before .before .before .before .before .before .ring-len in
+    let len = c .before .before .before .before .before .ring-len in
     let wide : ℕ = a .frames * a .setup .voices in (
       record {
+        some-voice = s .some-voice;
         voices = s .voices;
         channels = s .channels;
         frames = k .most;
         slots = refl;
         len = len .ensures;
         good = ap isLength (len .ensures) ∙ s .good;
-        constants = c .before .before .before .before .before .constants-of .ensures;
+        constants = c .before .before .before .before .before .before .before .constants-of .ensures;
       },
       record { targets = k .lengths .targets; records = k .lengths .records },
       record {
@@ -84,8 +85,8 @@ block-spec =
     returns
     (λ c. search needs)
     (λ c κs. tt)
-    (λ c. omega (arith, numbers (c .before .before .before .before) .slots))
     (λ c κs. tt)
+    (λ c. omega (arith, numbers (c .before .before .before .before .before) .slots))
     (λ c κs. tt)
     run-block-requires
     (λ c κs. tt)

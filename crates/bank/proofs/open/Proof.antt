@@ -37,7 +37,7 @@ open-spec =
     (λ c. search needs)
     returns
     (λ c. search needs)
-    (λ c κs. (known (c .before .before .before) .setup, known (c .before .before .before) .lengths))
+    (λ c κs. record { setup = known (c .before .before .before) .setup; lengths = known (c .before .before .before) .lengths })
     (λ c. search needs)
     (λ c. search needs)
     (λ c. search needs)

@@ -43,8 +43,8 @@ start-voice-requires : tie.Need-start-voice-requires Inv-loop μ-loop
 start-voice-requires c κs =
     let s = c .before .before .before .before .before .before .before .before .before .before .before .before .before .before in
     let l = c .before .before .before .before .before .before .before .before .before .before .loop in
-    let g = s .pre .1 in
-    (s .pre .0, record { targets = omega (arith, l .inv .2, g .targets); records = l .inv .3 ∙ g .records; delay = l .inv .4 ∙ g .delay }, c .before .before .before .before .before .before .before .before .if1 .taken)
+    let g = s .pre .lengths in
+    (record { setup = s .pre .setup; lengths = record { targets = omega (arith, l .inv .2, g .targets); records = l .inv .3 ∙ g .records; delay = l .inv .4 ∙ g .delay } }, c .before .before .before .before .before .before .before .before .if1 .taken)
 
 loop-again : tie.Need-loop-again Inv-loop μ-loop
 loop-again c =
@@ -77,9 +77,9 @@ open-voices-spec =
     μ-loop
     (λ c. (zero-le, refl, refl, refl, refl))
     (λ c κs. tt)
-    (λ c κs. (c .before .before .if1 .taken, c .before .before .before .before .loop .inv .2 ∙ c .before .before .before .before .before .before .before .before .pre .1 .targets))
+    (λ c κs. (c .before .before .if1 .taken, c .before .before .before .before .loop .inv .2 ∙ c .before .before .before .before .before .before .before .before .pre .lengths .targets))
     start-voice-requires
-    (λ c. omega (arith, c .before .before .before .before .before .before .before .before .before .before .before .before .before .if1 .taken, setup-accepted _ _ (c .before .before .before .before .before .before .before .before .before .before .before .before .before .before .before .before .before .before .before .pre .0) .voices))
+    (λ c. omega (arith, c .before .before .before .before .before .before .before .before .before .before .before .before .before .if1 .taken, setup-accepted _ _ (c .before .before .before .before .before .before .before .before .before .before .before .before .before .before .before .before .before .before .before .pre .setup) .voices))
     (λ c. omega arith)
     loop-again
     (λ c. omega arith)

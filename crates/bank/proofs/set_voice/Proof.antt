@@ -6,7 +6,7 @@ use denote.Ref.{now}
 use lib.ListN.{length}
 use lib.Seq.{paste}
 use Rattle.parts.specs.Laws.{patch-paste}
-use Rattle.slots.specs.Engine.{targets-length}
+use Rattle.slots.specs.Laws.{targets-length}
 use Rattle.bank.proofs.set_voice.Statement.{statement}
 use Rattle.bank.proofs.set_voice.Tie as tie
 
@@ -15,9 +15,8 @@ returns c =
     let a = c .before .before .before .before .before .before .before .before .args in
     let g = c .before .before .before .before .before .voice-targets in
     let l : length (g .result) ≡ 10 = ap length (g .ensures) ∙ targets-length (a .p) in
-    c .before .before .store .ensures
-    ∙ ap (λ (k : ℕ). paste (now (a .targets)) k (g .result) (length (g .result))) (c .before .before .before .before .before .before .start-of .ensures .0)
-    ∙ ap (λ (k : ℕ). paste (now (a .targets)) (a .voice * 10) (g .result) k) l
+    c .before .before .copy .ensures
+    ∙ ap (λ (k : ℕ). paste (now (a .targets)) k (g .result) 10) (c .before .before .before .before .before .before .start-of .ensures .0)
     ∙ patch-paste 10 (a .voice) (g .result) (now (a .targets)) l
     ∙ rw (g .ensures)
 
@@ -28,6 +27,6 @@ set-voice-spec =
     (λ c κs. c .before .pre)
     (λ c κs. tt)
     (λ c. omega arith)
-    (λ c κs. omega arith)
+    (λ c κs. (omega arith, omega arith))
     (λ c. omega arith)
     returns)

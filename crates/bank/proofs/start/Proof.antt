@@ -38,7 +38,7 @@ start-spec =
     (λ c. search needs)
     returns
     (λ c. search needs)
-    (λ c κs. (known (c .before .before) .setup, known (c .before .before) .lengths, known (c .before .before) .voice))
+    (λ c κs. let k = known (c .before .before) in (record { setup = k .setup; lengths = k .lengths }, k .voice))
     (λ c. search needs)
     (λ c. search needs)
     returns-2)

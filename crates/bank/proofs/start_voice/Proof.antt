@@ -10,7 +10,8 @@ use lib.Ieee.{Float}
 use lib.ListN.{length, replicate}
 use Rattle.parts.specs.Parts.{upto, piece, patch}
 use Rattle.parts.specs.Laws.{piece-fits}
-use Rattle.voices.specs.Calls.{targetsWidth, statesWidth, recordWidth, positiveZero, Engine, startSlot, startOf}
+use Rattle.voices.specs.Calls.{targetsWidth, statesWidth, recordWidth, Engine, startSlot, startOf}
+use Rattle.lane.specs.Floats.{zero}
 use Rattle.slots.specs.Frame.{targets-piece}
 use Rattle.checks.specs.Setup.{engine}
 use Rattle.checks.specs.Checks.{bankOf}
@@ -30,12 +31,12 @@ abbrev μ-loop : tie.MeasureT-loop
 
 start-is : (E : Engine) (n v c cur : ℕ) (tg rs ds rs' ds' goals : List Float) (s len : ℕ)
     → s ≡ c * n + v → len ≡ E .ringLength → goals ≡ piece targetsWidth v tg
-    → rs' ≡ patch recordWidth s (goals ++ replicate statesWidth positiveZero) rs
-    → ds' ≡ patch len s (replicate len positiveZero) ds
+    → rs' ≡ patch recordWidth s (goals ++ replicate statesWidth zero) rs
+    → ds' ≡ patch len s (replicate len zero) ds
     → bankOf tg rs' ds' cur ≡ startSlot E n v c (bankOf tg rs ds cur)
 unfolding startSlot
 start-is E n v c cur tg rs ds rs' ds' goals s len hs hl hg hr hd =
-    λ i. bankOf tg ((hr ∙ (λ j. patch recordWidth (hs j) (hg j ++ replicate statesWidth positiveZero) rs)) i) ((hd ∙ (λ j. patch (hl j) (hs j) (replicate (hl j) positiveZero) ds)) i) cur
+    λ i. bankOf tg ((hr ∙ (λ j. patch recordWidth (hs j) (hg j ++ replicate statesWidth zero) rs)) i) ((hd ∙ (λ j. patch (hl j) (hs j) (replicate (hl j) zero) ds)) i) cur
 
 start-slot-requires : tie.Need-start-slot-requires Inv-loop μ-loop
 start-slot-requires c κs =
@@ -45,8 +46,8 @@ start-slot-requires c κs =
     let p = c .before .before .before .place-at in
     let len = c .before .before .before .before .before .before .before .before .before .before .ring-len in
     let n : ℕ = a .channels * a .voices in
-    let d : length (l .delay) ≡ n * len .result = l .inv .3 ∙ s .pre .1 .delay ∙ ap (λ (k : ℕ). n * k) (sym (len .ensures)) in (
-      omega (arith, l .inv .2, s .pre .1 .records, piece-fits 30 (p .result) n (p .ensures .1)),
+    let d : length (l .delay) ≡ n * len .result = l .inv .3 ∙ s .pre .0 .lengths .delay ∙ ap (λ (k : ℕ). n * k) (sym (len .ensures)) in (
+      omega (arith, l .inv .2, s .pre .0 .lengths .records, piece-fits 30 (p .result) n (p .ensures .1)),
       omega (arith, d, piece-fits (len .result) (p .result) n (p .ensures .1)),
     )
 
@@ -80,13 +81,13 @@ start-voice-spec =
     Inv-loop
     μ-loop
     (λ c κs. tt)
-    (λ c. omega (arith, setup-accepted _ _ (c .before .before .before .before .before .pre .0) .slots))
-    (λ c κs. (c .before .before .before .before .before .pre .2, c .before .before .before .before .before .pre .1 .targets))
+    (λ c. omega (arith, setup-accepted _ _ (c .before .before .before .before .before .pre .0 .setup) .slots))
+    (λ c κs. (c .before .before .before .before .before .pre .1, c .before .before .before .before .before .pre .0 .lengths .targets))
     (λ c κs. c .start-of .ensures .1)
     (λ c. (zero-le, λ cur. refl, refl, refl))
-    (λ c κs. (c .if1 .taken, c .before .before .before .before .before .before .before .before .before .before .pre .2, refl))
+    (λ c κs. (c .if1 .taken, c .before .before .before .before .before .before .before .before .before .before .pre .1, refl))
     start-slot-requires
-    (λ c. omega (arith, c .before .before .before .before .before .before .before .before .before .if1 .taken, setup-accepted _ _ (c .before .before .before .before .before .before .before .before .before .before .before .before .before .before .before .before .before .before .before .pre .0) .channels))
+    (λ c. omega (arith, c .before .before .before .before .before .before .before .before .before .if1 .taken, setup-accepted _ _ (c .before .before .before .before .before .before .before .before .before .before .before .before .before .before .before .before .before .before .before .pre .0 .setup) .channels))
     (λ c. omega arith)
     loop-again
     (λ c. omega arith)

@@ -13,10 +13,10 @@ returns c =
     let y = c .before .before .before .before .before .comb-loop .result in
     let s = c .before .before .before .before .before .before .before .before .before .before .before .before .before .before .before in
     let a = s .args in
-    let first = read-good (now (a .delay)) (a .len) (a .cursor) (a .slot) (a .c .first) (s .pre) in
-    let second = read-good (now (a .delay)) (a .len) (a .cursor) (a .slot) (a .c .second) (s .pre) in
-    let written = write-good (now (a .delay)) (a .len) (a .cursor) (a .slot) y (s .pre) in
-    (cc (first, second), cc (first, second, written))
+    let first = read-good (now (a .delay)) (a .at .len) (a .at .cursor) (a .at .slot) (a .c .first) (s .pre) in
+    let second = read-good (now (a .delay)) (a .at .len) (a .at .cursor) (a .at .slot) (a .c .second) (s .pre) in
+    let written = write-good (now (a .delay)) (a .at .len) (a .at .cursor) (a .at .slot) y (s .pre) in
+    record { sample = cc (first, second); cells = cc (first, second, written) }
 
 pub comb-step-spec : {M : Type 1} → statement M
 comb-step-spec = tie.close (tie.spec (λ c κs. tt) (λ c κs. tt) (λ c κs. tt) (λ c κs. tt) (λ c. search needs) returns)

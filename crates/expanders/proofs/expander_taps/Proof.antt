@@ -6,8 +6,4 @@ use Rattle.expanders.proofs.expander_taps.Tie as tie
 
 pub expander-taps-spec : {M : Type 1} → statement M
 unfolding expanderTaps
-expander-taps-spec =
-    tie.close
-    (tie.spec
-    (λ c. search needs) (λ c κs. tt) (λ c κs. tt) (λ c κs. tt)
-    (λ c. rw (c .expander-solve .ensures, c .before .stages-of .ensures, c .before .before .before .saturation-gain .ensures)))
+expander-taps-spec = tie.close (tie.spec (λ c. search needs) (λ c κs. tt) (λ c κs. tt) (λ c. rw (c .expander-solve .ensures, c .before .before .saturation-gain .ensures)))

@@ -1,15 +1,16 @@
 -- `expanders::k35_step` meets its contract: each call gives its part of the definition.
+use borrow.Author.Needs.{needs}
 use Rattle.expanders.specs.Expanders.{k35Step}
 use Rattle.expanders.proofs.k35_step.Statement.{statement}
 use Rattle.expanders.proofs.k35_step.Tie as tie
 
-returns : tie.Need-returns
-unfolding k35Step
-returns c =
-    let stored = c .before .before .before .before in
-    let h = stored .before .before .k35-high-of .ensures in
-    let l = stored .before .before .before .before .k35-low-of .ensures in
-    (rw (h, l), rw (stored .store-k35 .ensures, h, l))
-
 pub k35-step-spec : {M : Type 1} → statement M
-k35-step-spec = tie.close (tie.spec (λ c κs. tt) (λ c κs. tt) (λ c κs. tt) returns)
+unfolding k35Step
+k35-step-spec =
+    tie.close
+    (tie.spec
+    (λ c. search needs) (λ c. search needs) (λ c. search needs) (λ c. search needs) (λ c κs. tt) (λ c κs. tt)
+    (λ c. search needs) (λ c. search needs) (λ c. search needs) (λ c. search needs) (λ c κs. tt) (λ c κs. tt)
+    (λ c. search needs) (λ c. search needs) (λ c. search needs) (λ c. search needs)
+    (λ c. search needs) (λ c. search needs) (λ c. search needs) (λ c. search needs)
+    (λ c. rw (c .before .before .before .before .k35-high .ensures, c .before .before .before .before .before .k35-feedback2 .ensures, c .before .before .before .before .before .before .before .before .before .before .k35-low .ensures, c .before .before .before .before .before .before .before .before .before .before .before .k35-feedback .ensures)))

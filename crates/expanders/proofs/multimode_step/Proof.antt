@@ -3,11 +3,6 @@ use Rattle.expanders.specs.Expanders.{multimodeStep}
 use Rattle.expanders.proofs.multimode_step.Statement.{statement}
 use Rattle.expanders.proofs.multimode_step.Tie as tie
 
-returns : tie.Need-returns
-unfolding multimodeStep
-returns c =
-    let t = c .before .before .before .expander-taps .ensures in
-    (rw (c .multimode-mix .ensures, t), rw (c .before .store-ladder .ensures, t))
-
 pub multimode-step-spec : {M : Type 1} → statement M
-multimode-step-spec = tie.close (tie.spec (λ c κs. tt) (λ c κs. tt) (λ c κs. tt) returns)
+unfolding multimodeStep
+multimode-step-spec = tie.close (tie.spec (λ c κs. tt) (λ c κs. tt) (λ c κs. tt) (λ c κs. tt) (λ c. rw (c .multimode-mix .ensures, c .before .store-ladder .ensures, c .before .before .stages .ensures, c .before .before .before .before .expander-taps .ensures)))

@@ -1,9 +1,22 @@
--- `filter::level` meets its contract: the operations are the definition's.
-use lib.Ieee.{ofBits, round}
-use Rattle.filter.specs.Voice.{levelOf}
+-- `filter::level` meets its contract: where the level is no finite number, max(0, 0) is 0.
+use mathlib.Core.Path.{_≡_, refl}
+use lib.Ieee.{Float, nan, inf, fin, lt, isNan, ofBits, round}
+use Rattle.lane.specs.Floats.{zero}
+use Rattle.lane.specs.Lane.{maxOf}
+use Rattle.filter.specs.Voice.{finiteOr0, levelOf}
 use Rattle.filter.proofs.level.Statement.{statement}
 use Rattle.filter.proofs.level.Tie as tie
 
+of-zero : maxOf zero zero ≡ zero
+unfolding maxOf lt isNan round
+of-zero = refl
+
+level-is : (v : Float) → maxOf (finiteOr0 v) zero ≡ levelOf v
+unfolding finiteOr0 levelOf
+level-is nan = of-zero
+level-is (inf s) = of-zero
+level-is (fin s m e) = refl
+
 pub level-spec : {M : Type 1} → statement M
-unfolding levelOf ofBits round
-level-spec = tie.close (tie.spec (λ c κs. tt) (λ c κs. tt) (λ c. rw (c .max .ensures, c .before .finite-or-0 .ensures)))
+unfolding ofBits round
+level-spec = tie.close (tie.spec (λ c κs. tt) (λ c κs. tt) (λ c. rw (c .max .ensures, c .before .finite-or-0 .ensures) (level-is _)))

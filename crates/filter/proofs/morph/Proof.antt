@@ -10,4 +10,4 @@ morph-spec =
     tie.close
     (tie.spec
     (λ c κs. tt) (λ c κs. tt) (λ c. simp (← c .before .is-nan .ensures, c .if1 .taken))
-    (λ c. simp (← c .before .before .is-nan .ensures, c .before .if1 .left, c .held-unit .ensures)))
+    (λ c. simp (← c .before .before .is-nan .ensures, c .before .if1 .left, c .unit-or-nan .ensures)))

@@ -7,15 +7,15 @@ returns : tie.Need-returns
 unfolding targetsOf
 returns c =
     rw (
-      c .held-unit5 .ensures,
+      c .unit-or-nan5 .ensures,
       c .before .level .ensures,
-      c .before .before .held-unit4 .ensures,
+      c .before .before .unit-or-nan4 .ensures,
       c .before .before .before .finite-or-0 .ensures,
       c .before .before .before .before .inverse-knee .ensures,
-      c .before .before .before .before .before .held-unit3 .ensures,
+      c .before .before .before .before .before .unit-or-nan3 .ensures,
       c .before .before .before .before .before .before .drive-gain .ensures,
-      c .before .before .before .before .before .before .before .held-unit2 .ensures,
-      c .before .before .before .before .before .before .before .before .held-unit .ensures,
+      c .before .before .before .before .before .before .before .unit-or-nan2 .ensures,
+      c .before .before .before .before .before .before .before .before .unit-or-nan .ensures,
     )
 
 pub targets-of-spec : {M : Type 1} → statement M

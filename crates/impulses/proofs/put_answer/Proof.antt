@@ -1,9 +1,19 @@
 -- `put_answer` meets its contract: by the verdict. Assumes nothing.
-use mathlib.Core.Path.{sym, _∙_}
-use Rattle.impulses.specs.Impulse.{answerText}
+use mathlib.Core.Path.{_≡_, sym, _∙_}
+use Prim.Native.Nat.{ℕ}
+use Rattle.text.specs.Text.{Buffer, puts}
+use Rattle.impulses.specs.declared.Verdict.{Verdict}
+use Rattle.impulses.specs.declared.Request.the-variants.{Asked}
+use Rattle.impulses.specs.Impulse.{verdictOf, responseOf, answered, answerText}
 use borrow.Author.Needs.{needs}
 use Rattle.impulses.proofs.put_answer.Statement.{statement}
 use Rattle.impulses.proofs.put_answer.Tie as tie
+
+-- where v is the verdict, what is written for v is the answer
+answer-is : (code rate frames : ℕ) (u v : Verdict) (p q : Buffer) → u ≡ verdictOf code rate frames → u ≡ v
+    → q ≡ puts (answered v (responseOf code rate frames)) p → q ≡ puts (answerText (Asked code rate frames)) p
+unfolding answerText
+answer-is code rate frames u v p q e k w = rw (sym e ∙ k) w
 
 verdict-of-requires : tie.Need-verdict-of-requires
 verdict-of-requires c κs = search needs
@@ -30,22 +40,25 @@ same-length : tie.Need-same-length
 same-length c = search needs
 
 returns : tie.Need-returns
-unfolding answerText
-returns c = rw (sym (c .before .before .before .before .before .before .verdict-of .ensures) ∙ c .before .before .before .before .enum-told .given .1) (c .before .before .put-response .ensures)
+returns c =
+    let t = c .before .before .before .before in
+    answer-is _ _ _ _ _ _ _ (t .before .before .verdict-of .ensures) (t .enum-told .given .1) (c .before .before .put-response .ensures)
 
 same-length-2 : tie.Need-same-length-2
 same-length-2 c = search needs
 
 returns-2 : tie.Need-returns-2
-unfolding answerText
-returns-2 c = rw (sym (c .before .before .before .before .before .before .verdict-of .ensures) ∙ c .before .before .before .before .enum-told2 .given .1) (c .before .before .put-large .ensures)
+returns-2 c =
+    let t = c .before .before .before .before in
+    answer-is _ _ _ _ _ _ _ (t .before .before .verdict-of .ensures) (t .enum-told2 .given .1) (c .before .before .put-large .ensures)
 
 same-length-3 : tie.Need-same-length-3
 same-length-3 c = search needs
 
 returns-3 : tie.Need-returns-3
-unfolding answerText
-returns-3 c = rw (sym (c .before .before .before .before .before .before .before .verdict-of .ensures) ∙ c .before .before .before .before .before .n .given .1) (c .before .before .put-refused .ensures)
+returns-3 c =
+    let t = c .before .before .before .before .before in
+    answer-is _ _ _ _ _ _ _ (t .before .before .verdict-of .ensures) (t .n .given .1) (c .before .before .put-refused .ensures)
 
 pub put-answer-spec : {M : Type 1} → statement M
 put-answer-spec =

@@ -75,7 +75,11 @@ render-requires : tie.Need-render-requires
 render-requires c κs =
     let r = c .before .before .before in
     let a = r .before .before .before .before .before .before .args in
-    (ap (λ (n : ℕ). verdictOf (a .code) (a .rate) n) (audio-part r) ∙ r .before .before .before .before .before .before .pre, ring-part r ∙ len-is _ _ _ _ _ (known r) (r .before .nearest-u32-to-f32 .ensures) (r .ring-len .ensures), pitch-part r ∙ sym (audio-part r))
+    record {
+      accepted = ap (λ (n : ℕ). verdictOf (a .code) (a .rate) n) (audio-part r) ∙ r .before .before .before .before .before .before .pre;
+      ring = ring-part r ∙ len-is _ _ _ _ _ (known r) (r .before .nearest-u32-to-f32 .ensures) (r .ring-len .ensures);
+      pitches = pitch-part r ∙ sym (audio-part r);
+    }
 
 array-share-prefix-audio : tie.Need-array-share-prefix-audio
 array-share-prefix-audio c = part-within _ (rendered (c .before .before .before)) (unused (c .before .before .before .before .before .before .before)) (c .before .audio2 .given ∙ audio-part (c .before .before .before .before .before .before .before))

@@ -61,7 +61,7 @@ returns c =
     let b = c .before .before .before .before .before in
     let o = b .before .before .before .before .before .before .before .before .before .before .before in
     let a = o .before .before .before .before .before .before .before .before .before .before .pre in
-    rendered-is _ _ _ _ _ (accepted _ _ _ (a .0)) (a .1) (a .2) _ _ _ _ _ _ _ _ _ (b .before .before .before .before .before .before .before .before .before .before .targets2 .given) (b .before .before .before .before .before .before .before .before .before .records2 .given) (b .before .before .before .before .before .before .before .before .delay .given) (rw (o .before .before .before .before .before .before .setup-of .ensures, o .before .before .before .before .before .silent-targets .ensures .0, o .before .before .before .before .silent-record .ensures .0) at (o .open .ensures)) (rw (o .before .before .before .before .before .before .setup-of .ensures) at (b .block .ensures))
+    rendered-is _ _ _ _ _ (accepted _ _ _ (a .accepted)) (a .ring) (a .pitches) _ _ _ _ _ _ _ _ _ (b .before .before .before .before .before .before .before .before .before .before .targets2 .given) (b .before .before .before .before .before .before .before .before .before .records2 .given) (b .before .before .before .before .before .before .before .before .delay .given) (rw (o .before .before .before .before .before .before .setup-of .ensures, o .before .before .before .before .before .silent-targets .ensures .0, o .before .before .before .before .silent-record .ensures .0) at (o .open .ensures)) (rw (o .before .before .before .before .before .before .setup-of .ensures) at (b .block .ensures))
 
 pub render-spec : {M : Type 1} → statement M
 render-spec =

@@ -1,4 +1,4 @@
--- `ladders::driven_coefficients` meets its contract: the operations are the definition's.
+-- `ladders::driven_coefficients` meets its contract: each call gives its part of the definition.
 use lib.Ieee.{ofBits, round}
 use Rattle.ladders.specs.Ladders.{drivenCoefficients}
 use Rattle.ladders.proofs.driven_coefficients.Statement.{statement}
@@ -6,8 +6,4 @@ use Rattle.ladders.proofs.driven_coefficients.Tie as tie
 
 pub driven-coefficients-spec : {M : Type 1} → statement M
 unfolding drivenCoefficients ofBits round
-driven-coefficients-spec =
-    tie.close
-    (tie.spec
-    (λ c κs. tt) (λ c κs. tt) (λ c κs. tt)
-    (λ c. rw (c .soft-clip .ensures, c .before .before .before .gain .ensures, c .before .before .before .before .exp2 .ensures)))
+driven-coefficients-spec = tie.close (tie.spec (λ c κs. tt) (λ c κs. tt) (λ c κs. tt) (λ c κs. tt) (λ c. rw (c .driven-with .ensures, c .before .soft-clip .ensures, c .before .before .gain .ensures, c .before .before .before .exp2 .ensures)))

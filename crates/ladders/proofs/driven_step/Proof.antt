@@ -9,7 +9,4 @@ driven-step-spec =
     tie.close
     (tie.spec
     (λ c κs. tt) (λ c κs. tt)
-    (λ c. (
-      rw (c .transistor-step .ensures .0, c .before .before .before .soft-clip .ensures),
-      rw (c .transistor-step .ensures .1, c .before .before .before .soft-clip .ensures),
-    )))
+    (λ c. rw (c .transistor-step .ensures, c .before .before .before .soft-clip .ensures)))

@@ -1,5 +1,6 @@
 -- `ladders::transistor_solve` meets its contract: the operations are the definition's.
 use mathlib.Core.Path.{refl}
+use borrow.Author.Needs.{needs}
 use lib.Ieee.{ofBits, round}
 use Rattle.ladders.specs.Ladders.{transistorSolve}
 use Rattle.ladders.proofs.transistor_solve.Statement.{statement}
@@ -7,4 +8,6 @@ use Rattle.ladders.proofs.transistor_solve.Tie as tie
 
 pub transistor-solve-spec : {M : Type 1} → statement M
 unfolding transistorSolve ofBits round
-transistor-solve-spec = tie.close (tie.spec (λ c. refl))
+transistor-solve-spec =
+    tie.close
+    (tie.spec (λ c. search needs) (λ c. search needs) (λ c. search needs) (λ c. search needs) (λ c. refl))

@@ -5,10 +5,10 @@ use Rattle.leaves.proofs.state_at.Statement.{statement}
 use Rattle.leaves.proofs.state_at.Tie as tie
 
 abbrev Inv-loop : tie.InvT-loop
-Inv-loop s starts k points₀ next₀ ok₀ i₀ points next ok i = i ≤ 8
+Inv-loop s at points₀ next₀ ok₀ i₀ points next ok i = i ≤ 8
 
 abbrev μ-loop : tie.MeasureT-loop
-μ-loop s starts k points₀ next₀ ok₀ i₀ points next ok i = 8 - i
+μ-loop s at points₀ next₀ ok₀ i₀ points next ok i = 8 - i
 
 default-requires : tie.Need-default-requires Inv-loop μ-loop
 default-requires c κs = search needs

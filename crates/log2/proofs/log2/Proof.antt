@@ -5,7 +5,7 @@ use Prim.Native.Nat.{ℕ, _+_, _-_, _*_, _/_}
 use native.Mathlib.Omega.{arith}
 use lib.Dec.{T}
 use lib.Ieee.{binary32, fits, toBits}
-use Rattle.log2.specs.Log2.{offset}
+use Rattle.log2.specs.Inner.{offset}
 use Rattle.log2.proofs.Window.{Window, code-window, window-plain, code-log, no-log}
 use borrow.Author.Needs.{needs}
 use Rattle.log2.proofs.log2.Statement.{statement}

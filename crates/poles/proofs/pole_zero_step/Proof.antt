@@ -14,21 +14,21 @@ use Rattle.poles.proofs.pole_zero_step.Statement.{statement}
 use Rattle.poles.proofs.pole_zero_step.Tie as tie
 
 abbrev Inv-loop : tie.InvT-loop
-Inv-loop numbers active gain state₀ x n u₀ j₀ state u j =
+Inv-loop numbers series state₀ x n u₀ j₀ state u j =
     (j ≤ n) × (n ≤ 8) × (ticked u state ≡ upto (λ i. poleStage (sectionAt numbers i) i) j (ticked u₀ state₀))
 
 abbrev μ-loop : tie.MeasureT-loop
-μ-loop numbers active gain state₀ x n u₀ j₀ state u j = n - j
+μ-loop numbers series state₀ x n u₀ j₀ state u j = n - j
 
 returns : tie.Need-returns Inv-loop μ-loop
 unfolding poleStep poleSeries
 returns c =
-    let l = c .before .loop in
-    let n = c .before .before .sections-run in
-    let a = c .before .before .before .args in
+    let l = c .before .before .loop in
+    let n = c .before .before .before .sections-run in
+    let a = c .before .before .before .before .args in
     let last : l .j ≡ n .result = omega arith in
-    let e : l .j ≡ min (a .active) 8 = last ∙ n .ensures in
-    ap (λ (d : Ticked). ticked (d .out ⊗ a .gain) (d .state))
+    let e : l .j ≡ min (a .series .active) 8 = last ∙ n .ensures in
+    ap (λ (d : Ticked). ticked (d .out ⊗ a .series .gain) (d .state))
     (l .inv .2 ∙ ap (λ (m : ℕ). upto (λ k. poleStage (sectionAt (now (a .numbers)) k) k) m (ticked (a .x) (now (a .state)))) e)
 
 pub pole-zero-step-spec : {M : Type 1} → statement M

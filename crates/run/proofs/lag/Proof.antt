@@ -1,7 +1,7 @@
 -- `run::lag` meets its contract: by the structure's mark SMOOTH.
 use mathlib.Core.Path.{_≡_, refl}
 use mathlib.Core.Bool.{Bool, true, false, not}
-use Rattle.run.specs.Run.{placeOf, stateOf}
+use Rattle.run.specs.Run.{controlsAfter, stateAfter}
 use Rattle.run.proofs.lag.Statement.{statement}
 use Rattle.run.proofs.lag.Tie as tie
 
@@ -14,13 +14,13 @@ on true e = refl
 on false e = cc
 
 returns : tie.Need-returns
-unfolding placeOf stateOf
+unfolding controlsAfter stateAfter
 returns c =
     let plain = off (c .before .is-smooth .result) (c .if1 .taken) in
     (rw (← c .before .is-smooth .ensures, plain), rw (← c .before .is-smooth .ensures, plain))
 
 returns-2 : tie.Need-returns-2
-unfolding placeOf stateOf
+unfolding controlsAfter stateAfter
 returns-2 c =
     let test = c .before .before .before .before in
     let smooth = on (test .before .is-smooth .result) (test .if1 .left) in

@@ -1,5 +1,5 @@
 -- `run::steer` meets its contract: by the mark.
-use Rattle.run.specs.Run.{steerOf}
+use Rattle.run.specs.Contracts.{steerOf}
 use Rattle.run.proofs.steer.Statement.{statement}
 use Rattle.run.proofs.steer.Tie as tie
 

@@ -7,21 +7,20 @@ use native.Mathlib.Numerals.{add-one}
 use denote.Ref.{now}
 use lib.ListN.{length}
 use Rattle.parts.specs.Parts.{upto}
-use Rattle.voices.specs.Calls.{SlotRun, frameOf}
-use Rattle.kernels.specs.Tuning.{Kept, KeptSections}
-use Rattle.slots.specs.Slots.{engineAt, blockAt, slotRun}
+use Rattle.run.specs.Contracts.{Keeps}
+use Rattle.voices.specs.Calls.{targetsWidth, SlotRun}
+use Rattle.slots.specs.Slots.{slotRun, frameIn}
 use Rattle.slots.proofs.run_frames.Statement.{statement}
 use Rattle.slots.proofs.run_frames.Tie as tie
 
 abbrev Inv-loop : tie.InvT-loop
 Inv-loop e sections roots tuning₀ blended₀ targets params₀ state₀ delay₀ pitch x y audio₀ p frames f₀ tuning blended params state delay audio f =
     (f ≤ e .frames)
-    × (slotRun params state delay audio ≡ upto (frameOf (engineAt e sections) (e .voices) (blockAt e pitch x y) targets (e .cursor) (p .channel) (p .voice)) f (slotRun params₀ state₀ delay₀ audio₀))
+    × (slotRun params state delay audio ≡ upto (frameIn e sections targets pitch x y p) f (slotRun params₀ state₀ delay₀ audio₀))
     × (length delay ≡ length delay₀)
     × (length audio ≡ length audio₀)
-    × (length params ≡ 10)
-    × Kept (e .code) (e .k .«ref_over_rate») tuning
-    × KeptSections sections (e .active) (e .k .«ref_over_rate») blended
+    × (length params ≡ targetsWidth)
+    × Keeps (e .m) sections tuning blended
 
 abbrev μ-loop : tie.MeasureT-loop
 μ-loop e sections roots tuning₀ blended₀ targets params₀ state₀ delay₀ pitch x y audio₀ p frames f₀ tuning blended params state delay audio f = e .frames - f
@@ -30,23 +29,29 @@ frame-requires : tie.Need-frame-requires Inv-loop μ-loop
 frame-requires c κs =
     let s = c .before .before .before .before .before .before .before .before .before .before .before .before .before in
     let l = c .before .before .before .before .before .before .before .loop in
-    let b = s .pre .2 in
-    (s .pre .0, s .pre .1, record { pitch = b .pitch; x = b .x; y = b .y; delay = l .inv .2 ∙ b .delay; audio = l .inv .3 ∙ b .audio }, c .before .before .before .before .before .before .loop-test .taken, l .inv .4, l .inv .5, l .inv .6)
+    let q = s .pre .2 in (
+      s .pre .0,
+      s .pre .1,
+      record { pitch = q .pitch; x = q .x; y = q .y; delay = l .inv .2 ∙ q .delay; audio = l .inv .3 ∙ q .audio },
+      c .before .before .before .before .before .before .loop-test .taken,
+      l .inv .4,
+      l .inv .5,
+    )
 
 loop-again : tie.Need-loop-again Inv-loop μ-loop
 loop-again c =
     let a = c .before .before .before .before .before .before .before .before .before .before .before .before .before .before .before .before .before .before .args in
     let l = c .before .before .before .before .before .before .before .before .before .before .before .before .loop in
-    let g : ℕ → SlotRun → SlotRun = frameOf (engineAt (a .e) (now (a .sections))) (a .e .voices) (blockAt (a .e) (now (a .pitch)) (now (a .x)) (now (a .y))) (now (a .targets)) (a .e .cursor) (a .p .channel) (a .p .voice) in (
+    let frame = c .before .before .before .before .frame .ensures in
+    let g : ℕ → SlotRun → SlotRun = frameIn (a .e) (now (a .sections)) (now (a .targets)) (now (a .pitch)) (now (a .x)) (now (a .y)) (a .p) in (
       omega arith,
-      c .before .before .before .before .frame .ensures .0
+      frame .0
           ∙ ap (g (l .f)) (l .inv .1)
           ∙ ap (λ (k : ℕ). upto g k (slotRun (now (a .params)) (now (a .state)) (now (a .delay)) (now (a .audio)))) (sym (add-one (l .f))),
       omega (arith, l .inv .2),
       omega (arith, l .inv .3),
-      c .before .before .before .before .frame .ensures .1,
-      c .before .before .before .before .frame .ensures .2,
-      c .before .before .before .before .frame .ensures .3,
+      frame .1,
+      frame .2,
     )
 
 returns : tie.Need-returns Inv-loop μ-loop
@@ -54,8 +59,8 @@ returns c =
     let a = c .before .before .before .before .before .before .before .args in
     let l = c .before .loop in
     let e : l .f ≡ a .e .frames = omega arith in
-    l .inv .1
-    ∙ ap (λ (k : ℕ). upto (frameOf (engineAt (a .e) (now (a .sections))) (a .e .voices) (blockAt (a .e) (now (a .pitch)) (now (a .x)) (now (a .y))) (now (a .targets)) (a .e .cursor) (a .p .channel) (a .p .voice)) k (slotRun (now (a .params)) (now (a .state)) (now (a .delay)) (now (a .audio)))) e
+    let g : ℕ → SlotRun → SlotRun = frameIn (a .e) (now (a .sections)) (now (a .targets)) (now (a .pitch)) (now (a .x)) (now (a .y)) (a .p) in
+    l .inv .1 ∙ ap (λ (k : ℕ). upto g k (slotRun (now (a .params)) (now (a .state)) (now (a .delay)) (now (a .audio)))) e
 
 pub run-frames-spec : {M : Type 1} → statement M
 run-frames-spec =
@@ -63,7 +68,7 @@ run-frames-spec =
     (tie.spec
     Inv-loop
     μ-loop
-    (λ c. (zero-le, refl, refl, refl, omega arith, c .before .before .before .before .before .pre .4, c .before .before .before .before .before .pre .5))
+    (λ c. (zero-le, refl, refl, refl, omega arith, c .before .before .before .before .before .pre .4))
     frame-requires
     (λ c. omega (arith, c .before .before .before .before .before .before .before .before .before .before .before .loop-test .taken, c .before .before .before .before .before .before .before .before .before .before .before .before .before .before .before .before .before .before .pre .0 .frames))
     (λ c. omega arith)

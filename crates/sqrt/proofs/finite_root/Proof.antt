@@ -3,7 +3,7 @@ use mathlib.Core.Path.{_≡_, sym, _∙_, subst}
 use Prim.Native.Nat.{ℕ, _/_, _-_, _+_, _*_, _%_, _^_, _≤_, _<_}
 use native.Mathlib.Omega.{arith}
 use Rattle.bits.specs.Patterns.{pack, plain}
-use Rattle.sqrt.specs.Root.{NearestWhole}
+use Rattle.sqrt.specs.Inner.{NearestWhole}
 use Rattle.sqrt.proofs.Isqrt.{Split, split, split-whole, scaled-root}
 use borrow.Author.Needs.{needs}
 use Rattle.sqrt.proofs.finite_root.Statement.{statement}

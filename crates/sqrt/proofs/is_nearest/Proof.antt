@@ -5,7 +5,7 @@ use native.Mathlib.Nat.{mul-le-mul, mul-le-mul-right, lt-of-not-le}
 use native.Mathlib.Omega.{arith}
 use borrow.Author.Needs.{needs}
 use borrow.Author.Tests.{ltb-true}
-use Rattle.sqrt.specs.Root.{NearestWhole}
+use Rattle.sqrt.specs.Inner.{NearestWhole}
 use Rattle.sqrt.proofs.is_nearest.Statement.{statement}
 use Rattle.sqrt.proofs.is_nearest.Tie as tie
 

@@ -6,7 +6,8 @@ use native.Mathlib.Omega.{arith}
 use lib.Dec.{T}
 use lib.Ieee.{Float, nan, inf, fin, binary32, fits, ofBits, toBits, eq, isNan}
 use lib.Ieee.Bits.{ofBits-toBits, toBits-lt}
-use Rattle.sqrt.specs.Root.{rootOf, rootUnits, NearestWhole}
+use Rattle.sqrt.specs.Root.{rootOf, rootUnits}
+use Rattle.sqrt.specs.Inner.{NearestWhole}
 use Rattle.bits.specs.Patterns.{not-nan, pack}
 use Rattle.sqrt.proofs.Isqrt.{Split, split, split-whole, scaled-root}
 use Rattle.sqrt.proofs.Cases.{nan-stays, normal-case}

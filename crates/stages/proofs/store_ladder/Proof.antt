@@ -1,4 +1,5 @@
 -- `stages::store_ladder` meets its contract: the operations are the definition's.
+use mathlib.Core.Path.{refl}
 use borrow.Author.Needs.{needs}
 use Rattle.stages.specs.Stages.{ladderStates}
 use Rattle.stages.proofs.store_ladder.Statement.{statement}
@@ -10,4 +11,4 @@ store-ladder-spec =
     tie.close
     (tie.spec
     (λ c. search needs) (λ c. search needs) (λ c. search needs) (λ c. search needs) (λ c. search needs)
-    (λ c. search needs) (λ c. search needs) (λ c. search needs) (λ c. search needs) (λ c. cc))
+    (λ c. search needs) (λ c. search needs) (λ c. search needs) (λ c. search needs) (λ c. refl))

@@ -10,10 +10,8 @@ unfolding buzzStep ofBits round
 returns c =
     let s = c .before .svf .ensures in
     let shaped = c .before .before .before .before in
-    let k = shaped .before .saturated-k .ensures in (
-      rw (c .buzz-mix .ensures, s, shaped .asym .ensures, k),
-      rw (s, shaped .asym .ensures, k),
-    )
+    let k = shaped .before .saturated-k .ensures in
+    rw (c .buzz-mix .ensures, s, shaped .asym .ensures, k)
 
 pub buzz-step-spec : {M : Type 1} → statement M
 buzz-step-spec =

@@ -1,5 +1,6 @@
 -- `sweeps::diffuse_stage` meets its contract: each call gives its part of the definition.
 use borrow.Author.Needs.{needs}
+use native.Mathlib.Numerals.{add-one}
 use Rattle.sweeps.specs.Sweeps.{diffuseStage}
 use Rattle.sweeps.proofs.diffuse_stage.Statement.{statement}
 use Rattle.sweeps.proofs.diffuse_stage.Tie as tie
@@ -11,4 +12,4 @@ diffuse-stage-spec =
     (tie.spec
     (λ c. search needs) (λ c. search needs) (λ c. search needs) (λ c. search needs) (λ c. search needs)
     (λ c. search needs) (λ c. search needs) (λ c κs. tt) (λ c. search needs) (λ c. search needs) (λ c. search needs)
-    (λ c. search needs) (λ c κs. search needs) (λ c. cc))
+    (λ c. search needs) (λ c κs. search needs) (λ c. rw (c .before .diffuser-weight .ensures, c .before .before .before .before .before .svf .ensures, add-one)))

@@ -21,7 +21,7 @@ unfolding diffuserStep ofBits round
 returns c =
     let l = c .before .before .loop in
     let e : l .j ≡ 8 = omega arith in
-    (rw (l .inv .1, e), rw (l .inv .1, e))
+    rw (l .inv .1, e)
 
 pub diffuser-step-spec : {M : Type 1} → statement M
 diffuser-step-spec =

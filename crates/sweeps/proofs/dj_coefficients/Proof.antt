@@ -8,8 +8,8 @@ returns : tie.Need-returns
 unfolding djCoefficients ofBits round
 returns c =
     rw (
-      c .min .ensures,
-      c .before .dj-k .ensures,
+      c .dj-with .ensures,
+      c .before .min .ensures,
       c .before .before .gain .ensures,
       c .before .before .before .dj-pitch .ensures,
       c .before .before .before .before .dj-depth .ensures,

@@ -3,7 +3,8 @@ use mathlib.Core.Path.{_≡_, _∙_}
 use denote.Ref.{now}
 use borrow.Author.Tests.{eq-eqb, ne-eqb}
 use Rattle.poles.specs.Numbers.{poleNumbers}
-use Rattle.kernels.specs.Tuning.{blendedOf, KeptSections}
+use Rattle.kernels.specs.Tuning.{blendedOf}
+use Rattle.kernels.specs.Contracts.{KeptSections}
 use Rattle.kernels.proofs.tuning.blend_sections.Statement.{statement}
 use Rattle.kernels.proofs.tuning.blend_sections.Tie as tie
 
@@ -18,7 +19,8 @@ returns-2 c =
     let a = s .args in
     let key = c .before .is-blended .ensures (c .if2 .taken) in
     simp (eq-eqb (a .code) 8 (c .before .before .before .if1 .left))
-    (s .pre (key .0) ∙ (λ i. poleNumbers (now (a .sections)) (a .active) (a .p .«ref_over_rate») (record { 0 = key .1 i }) (key .2 i) (key .3 i)))
+    (s .pre (key .number)
+    ∙ (λ i. poleNumbers (now (a .sections)) (a .active) (a .p .«ref_over_rate») (record { 0 = key .pitch-is i }) (key .x-is i) (key .y-is i)))
 
 returns-3 : tie.Need-returns-3
 unfolding blendedOf

@@ -9,7 +9,7 @@ returns : tie.Need-returns
 returns c e =
     let x = c .before .before .before in
     let pitch = x .before .before .before .same .ensures (x .before .before .if1 .taken) in
-    (pitch .0, pitch .1, x .same2 .ensures (c .before .before .if2 .taken) .1, c .same3 .ensures e .1)
+    record { number = pitch .0; pitch-is = pitch .1; x-is = x .same2 .ensures (c .before .before .if2 .taken) .1; y-is = c .same3 .ensures e .1 }
 
 pub is-blended-spec : {M : Type 1} → statement M
 is-blended-spec =

@@ -8,7 +8,7 @@ use Rattle.kernels.proofs.tuning.is_tuned.Tie as tie
 returns : tie.Need-returns
 returns c e =
     let pitch = c .before .before .before .same .ensures (c .before .before .if1 .taken) in
-    (pitch .0, pitch .1, c .same2 .ensures e .1)
+    record { number = pitch .0; pitch-is = pitch .1; character-is = c .same2 .ensures e .1 }
 
 pub is-tuned-spec : {M : Type 1} → statement M
 is-tuned-spec =

@@ -11,11 +11,11 @@ returns c = rw (c .before .before .match .keys1, ← c .before .dj-coefficients 
 
 returns-2 : tie.Need-returns-2
 unfolding numbersOf
-returns-2 c = rw (c .before .before .match .keys2, ← c .before .acid-coefficients .ensures) (c .diode-numbers .ensures)
+returns-2 c = rw (c .before .before .before .match .keys2, ← c .before .before .gain .ensures, ← c .before .diode-rows .ensures) (c .row-numbers .ensures)
 
 returns-3 : tie.Need-returns-3
 unfolding numbersOf
-returns-3 c = rw (c .before .before .match .keys3, ← c .before .clean-coefficients .ensures) (c .diode-numbers2 .ensures)
+returns-3 c = rw (c .before .before .before .match .keys3, ← c .before .before .gain2 .ensures, ← c .before .diode-rows2 .ensures) (c .row-numbers2 .ensures)
 
 returns-4 : tie.Need-returns-4
 unfolding numbersOf
@@ -56,7 +56,7 @@ returns-10 c =
       ne-eqb code 11 (c .before .before .match .rest .0 .1),
       ne-eqb code 12 (c .before .before .match .rest .1),
     )
-    (rw (← c .before .gain .ensures) (c .three-numbers2 .ensures))
+    (rw (← c .before .gain3 .ensures) (c .three-numbers2 .ensures))
 
 pub numbers-of-spec : {M : Type 1} → statement M
 numbers-of-spec =
@@ -64,5 +64,5 @@ numbers-of-spec =
     (tie.spec
     (λ c κs. tt) (λ c κs. tt) (λ c κs. tt) (λ c κs. tt) (λ c κs. tt) (λ c κs. tt) (λ c κs. tt) (λ c κs. tt)
     (λ c κs. tt) (λ c κs. tt) (λ c κs. tt) (λ c κs. tt) (λ c κs. tt) (λ c κs. tt) (λ c κs. tt) (λ c κs. tt)
-    (λ c κs. tt) (λ c κs. tt) (λ c κs. tt) (λ c κs. tt) returns returns-2 returns-3 returns-4 returns-5 returns-6
+    (λ c κs. tt) (λ c κs. tt) (λ c κs. tt) (λ c κs. tt) (λ c κs. tt) (λ c κs. tt) returns returns-2 returns-3 returns-4 returns-5 returns-6
     returns-7 returns-8 returns-9 returns-10)

@@ -3,7 +3,8 @@ use mathlib.Core.Path.{_≡_, _∙_}
 use denote.Ref.{now}
 use lib.Ieee.{ofBits, round}
 use Rattle.filter.specs.declared.Pitch.{Pitch}
-use Rattle.kernels.specs.Tuning.{tuningOf, keyOf, Kept}
+use Rattle.kernels.specs.Tuning.{tuningOf, keyOf}
+use Rattle.kernels.specs.Contracts.{Kept}
 use Rattle.kernels.proofs.tuning.retune.Statement.{statement}
 use Rattle.kernels.proofs.tuning.retune.Tie as tie
 
@@ -13,7 +14,7 @@ returns c =
     let s = c .before .before .before in
     let a = s .args in
     let key = c .before .is-tuned .ensures (c .if1 .taken) in
-    s .pre (key .0) ∙ (λ i. tuningOf (a .code) (record { 0 = key .1 i }) (keyOf (a .reference) (key .2 i)))
+    s .pre (key .number) ∙ (λ i. tuningOf (a .code) (record { 0 = key .pitch-is i }) (keyOf (a .reference) (key .character-is i)))
 
 returns-2 : tie.Need-returns-2
 unfolding keyOf ofBits round

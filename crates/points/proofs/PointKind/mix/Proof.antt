@@ -1,12 +1,12 @@
 -- `PointKind::mix` meets its contract: arm by arm, the operations are the definition's.
 use borrow.Author.Needs.{needs}
 use lib.Ieee.{ofBits, round}
-use Rattle.points.specs.Points.{mixOf}
+use Rattle.points.specs.Points.{sectionOfKind}
 use Rattle.points.proofs.PointKind.mix.Statement.{statement}
 use Rattle.points.proofs.PointKind.mix.Tie as tie
 
 pub mix-spec : {M : Type 1} → statement M
-unfolding mixOf ofBits round
+unfolding sectionOfKind ofBits round
 mix-spec =
     tie.close
     (tie.spec

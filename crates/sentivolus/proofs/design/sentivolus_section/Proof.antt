@@ -13,19 +13,19 @@ accepted c =
     let is-values = c .before .before .s .given .1 in
     let section = c .before .before .before .before in
     let a = section .before .before .args in
-    let number : sectionRefusal (a .point) ≡ 0 = sym (section .section .ensures .0) ∙ ap refusalOf is-values in (
-      sym number,
-      rw number
+    let number : sectionRefusal (a .point) ≡ 0 = sym (section .section .ensures .0) ∙ ap refusalOf is-values in record {
+      answer = sym number;
+      numbers = rw number
           (c .values .ensures ∙ sym (ap valuesOf is-values) ∙ section .section .ensures .1
-          ∙ ap (λ (d : PoleZeroDesign). sectionValues d (a .point) (a .x) (a .y)) (section .before .design-of .ensures)),
-    )
+          ∙ ap (λ (d : PoleZeroDesign). sectionValues d (a .point) (a .x) (a .y)) (section .before .design-of .ensures));
+    }
 
 refused : tie.Need-returns-2
 unfolding refusalOf sectionLeft
 refused c =
     let section = c .before .before in
     let number : sectionRefusal (section .before .before .args .point) ≡ 11 = sym (section .section .ensures .0) ∙ ap refusalOf (c .enum-told .given .1) in
-    (sym number, rw number)
+    record { answer = sym number; numbers = rw number }
 
 pub sentivolus-section-spec : {M : Type 1} → statement M
 sentivolus-section-spec =

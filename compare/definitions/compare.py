@@ -1,0 +1,340 @@
+#!/usr/bin/env python3
+"""Compares the definitions of crates/*/specs with the published Rust, operation by operation. Ends with `N equal, M different`."""
+import argparse
+import os
+import sys
+
+sys.dont_write_bytecode = True
+sys.setrecursionlimit(20000)
+
+from antt import Definitions
+from rust import Rust, Type
+from trees import Tree
+
+ROOT = os.path.join(os.path.dirname(os.path.abspath(__file__)), "..", "..")
+RUST = os.path.join(ROOT, "..", "shared", "docs", "src", "crates", "dsp", "src", "filter")
+SHOWN = 20  # differences printed at most
+VOICES = 2  # of the blocks compared
+
+# ---- the table of names: after a renaming, this part alone changes
+
+# a definition, and the same in Rust of its arguments a, b, c, .. in order; a record's fields in the definition's order
+LEAVES = (
+    ("lane.Lane.exp2Of", "exp2(a)"),
+    ("lane.Lane.pow10Of", "10f32.powf(a / b)"),
+    ("lane.Lane.expOf", "a.exp()"),
+    ("lane.Lane.tanOf", "tan(a)"),
+    ("lane.Lane.softClip", "soft_clip(a)"),
+    ("lane.Lane.saturationGain", "saturation_gain(a, b)"),
+    ("lines.Lines.maxDelaySeconds", "MAX_DELAY_SECONDS"),
+    ("lines.Lines.minDelay", "MIN_DELAY"),
+    ("lines.Lines.hermiteOf", "hermite(a, b, c, d, e)"),
+    ("points.Points.defaultPoint", "Point::default()"),
+    ("filter.Filter.ratioOf", "ratio_of(a, b)"),
+    ("filter.Filter.gainOf", "gain(a, b)"),
+    ("filter.Filter.svfOf", "let (band, low) = svf(&mut a, &mut b, c, d, e); [a, b, band, low]"),
+    ("filter.Filter.svfK", "svf_k(a, b, c)"),
+    ("filter.Filter.saturatedK", "saturated_k(a, b, c, d)"),
+    ("filter.Voice.defaultParams", "VoiceParams::default()"),
+    ("filter.Voice.morphTargetsOf", "morph_targets_of(&a)"),
+    ("extended.Extended.unitOr0", "unit(a)"),
+    ("extended.Extended.absOf", "abs(a)"),
+    ("extended.Extended.asymSlope", "ASYM_SLOPE"),
+    ("extended.Extended.asymOf", "asym(a)"),
+    ("sweeps.Sweeps.neutralPitch", "NEUTRAL_PITCH"),
+    ("sweeps.Sweeps.djK", "dj_k(a)"),
+    ("sweeps.Sweeps.diffuserK", "diffuser_k(a)"),
+)
+
+# the definitions that the functions below ask for
+TARGETS = "filter.Voice.targetsOf"
+SMOOTH = "extended.Extended.smoothMark"
+LINES = "extended.Extended.linesMark"
+KERNEL = "kernels.Kernels.kernelOf"
+CONSTANTS = "run.Run.constantsOf"
+SIGN = "run.Run.signOf"
+TICK = "run.Run.tickWith"
+POINT_SECTION = "points.Points.sectionOf"
+VALUES = "points.Points.values"
+DEFAULT_STATE = "points.Points.defaultState"
+TABLE = "pole_zero.PoleZero.tableOf"
+DESIGN_SECTION = "pole_zero.PoleZero.sectionValues"
+
+# parameters of KERNEL and TICK that are called otherwise here, and the fields of what they give: sample, states or record, ring
+PARAMETERS = {"p": "settings", "k": "constants", "st": "steering", "rec": "numbers"}
+KERNEL_FIELDS = ("out", "state", "ring")
+TICK_FIELDS = ("out", "rec", "ring")
+
+# fields of CONSTANTS, and the variables of Run::go that they are
+CONSTANT_FIELDS = (("alpha", "alpha"), ("clip_in", "clip_in"), ("clip_out", "clip_out"), ("smooth_samples", "smooth_samples"),
+                   ("ref_over_rate", "reference_ratio"))
+
+
+def by_name(name):
+    """An operation known by its name alone."""
+    return lambda *parts: Tree(name, *parts)
+
+
+# definitions compared by name alone: the Rust's side of each is a method of f32 or of Lines, in rust.py
+OPAQUE = {
+    "lane.Lane.maxOf": by_name("max"), "lane.Lane.minOf": by_name("min"), "lane.Lane.clampOf": by_name("clamp"),
+    "sqrt.Root.rootOf": by_name("root"), "log2.Log2.logOf": by_name("log2"),
+    "lines.Lines.ringRead": by_name("ringRead"), "lines.Lines.ringWrite": by_name("ringWrite"),
+}
+
+# the structure codes
+CODES = {
+    1: Type("BuzzMorph"), 2: Type("DjSweep"), 3: Type("Diffuser"), 4: Type("TransistorLadder", DRIVEN=False),
+    5: Type("DiodeLadder", CLEAN=False), 6: Type("DiodeLadder", CLEAN=True), 7: Type("TransistorLadder", DRIVEN=True),
+    8: Type("PoleZero"), 9: Type("Comb2"), 10: Type("Expander", BAND=False), 11: Type("Expander", BAND=True), 12: Type("K35"),
+}
+SKIPPED = (range(8), (), (1, 4, 6), (0, 3, 7), (7,), range(7))  # of each design compared, the points that are bypassed in all states
+KINDS = ("HighPass", "LowPass", "Bypass", "AllPass", "BandPass", "Notch", "Bell", "Free")
+
+# ---- what is given to both sides
+
+VOICE = ("resonance", "drive", "saturation", "character", "stereo_offset", "mix", "level", "morph_x", "morph_y")
+FORMS = (Tree("nan"), Tree("inf", "sign"), Tree("fin", "sign", "digits", "exponent"))  # every float is one of these
+
+
+def floats(name, count):
+    """So many unknown floats."""
+    return [Tree("%s%d" % (name, i)) for i in range(count)]
+
+
+def record(names):
+    """A record of unknown floats."""
+    return {name: Tree(name) for name in names}
+
+
+def table(active):
+    """A design's table, for the definitions and for the Rust."""
+    numbers = floats("t", 160)
+    nested = [[numbers[20 * s + 4 * v:20 * s + 4 * v + 4] for v in range(5)] for s in range(8)]
+    common = {"active": active, "gain": Tree("gain")}
+    return {"sections": numbers, **common}, {"": "Table", "sections": nested, **common}
+
+
+def point(kind, mark):
+    """A point of a kind, for the definitions (where the kind carries its numbers) and for the Rust."""
+    names = ("frequency", "q", "gain_db", "zero_frequency", "zero_q")
+    f, q, gain, zero_f, zero_q = [Tree(name + mark) for name in names]
+    carried = {"Bell": (gain,), "Free": (zero_f, zero_q)}.get(kind, ())
+    rust = {"": "Point", "kind": Tree(kind), **dict(zip(names, (f, q, gain, zero_f, zero_q)))}
+    return {"kind": Tree(kind, *carried), "frequency": f, "q": q}, rust
+
+
+def design(number):
+    """A design of mixed kinds, for both sides."""
+    def kind(state, place):
+        return "Bypass" if place in SKIPPED[number] else KINDS[(3 * place + 5 * state + number) % 8]
+    pairs = [[point(kind(s, p), "_%d_%d" % (s, p)) for p in range(8)] for s in range(4)]
+    gain = Tree("design_gain_db")
+    definition = {"states": [{"points": [d for d, _ in state]} for state in pairs], "gain_db": gain}
+    rust = {"": "PoleZeroDesign", "states": [{"": "State", "points": [r for _, r in state]} for state in pairs], "gain_db": gain}
+    return definition, rust
+
+
+def slot(i):
+    """What a slot has before a frame: its input, its ten smoothed numbers and twenty states, its ring."""
+    return {"input": Tree("in%d" % i), "numbers": floats("number%d_" % i, 30), "ring": Tree("ring%d" % i)}
+
+
+def rust_bank(clean, channels, slots, rust_table):
+    """The Rust's bank with these slots."""
+    rows = [list(row) for row in zip(*[each["numbers"] for each in slots])]
+    targets = [list(row) for row in zip(*[floats("target%d_" % voice, 10) for voice in range(VOICES)])]
+    return {"": "FilterBank", "voices": VOICES, "channels": channels, "stride": VOICES, "clean": clean, "rate": Tree("rate"),
+            "reference": Tree("reference"), "targets": targets[:8], "morph_targets": targets[8:], "smoothed": rows[:8],
+            "morph_smoothed": rows[8:10], "state": rows[10:], "delay": [each["ring"] for each in slots],
+            "ring": Tree("len"), "cursor": Tree("cursor"), "pole_zero": rust_table}
+
+
+def flat(value):
+    """A value's numbers in order: a record's fields, a list's items."""
+    if isinstance(value, dict):
+        return [number for name, part in value.items() if name for number in flat(part)]
+    if isinstance(value, (list, tuple)):
+        return [number for part in value for number in flat(part)]
+    return [value]
+
+
+def parting(a, b):
+    """The first place where two trees differ."""
+    while isinstance(a, Tree) and isinstance(b, Tree) and a.name == b.name and len(a.parts) == len(b.parts):
+        unequal = [(x, y) for x, y in zip(a.parts, b.parts) if x != y]
+        if not isinstance(unequal[0][0], Tree):
+            break
+        a, b = unequal[0]
+    return a, b
+
+
+def shown(value):
+    """A value as text, a tree to a depth of four."""
+    return value.shown(4) if isinstance(value, Tree) else str(value)
+
+
+class Different(Exception):
+    """A first difference."""
+
+
+class Comparison:
+    """Runs the comparisons and counts; with `first`, stops silently at the first difference."""
+
+    def __init__(self, rust, definitions, first=False):
+        self.rust, self.definitions, self.first, self.equal, self.different = rust, definitions, first, 0, 0
+
+    def run(self):
+        """Everything."""
+        for part in (self.leaves, self.targets, self.marks, self.kernels, self.blocks, self.points, self.tables):
+            part()
+        return self
+
+    def same(self, what, definition, rust):
+        """Counts the numbers of two values that are equal, and reports those that are not. Of a record, the definition's fields count."""
+        if isinstance(definition, dict) and isinstance(rust, dict):
+            rust = [rust[name] for name in definition]
+        ours, theirs = flat(definition), flat(rust)
+        if len(ours) != len(theirs):
+            ours, theirs, what = [len(ours)], [len(theirs)], what + ", how many numbers"
+        for i, (a, b) in enumerate(zip(ours, theirs)):
+            self.equal += a == b
+            if a != b:
+                self.report("%s, number %d" % (what, i), a, b)
+
+    def report(self, what, a, b):
+        """Prints a difference: both trees, and both at the place where they part."""
+        if self.first:
+            raise Different
+        self.different += 1
+        if self.different > SHOWN:
+            return
+        print("different: %s\n  definition %s\n  rust       %s" % (what, shown(a), shown(b)))
+        if parting(a, b) != (a, b):
+            print("  there      %s\n             %s" % tuple(shown(tree) for tree in parting(a, b)))
+
+    def leaves(self):
+        """The table's definitions, at unknown floats or at a voice's settings."""
+        for name, text in LEAVES:
+            value = self.definitions.value(name)
+            arity = getattr(value, "arity", 0)
+            given = [record(VOICE)] if "(&a)" in text else [Tree(letter) for letter in "abcdefgh"[:arity]]
+            self.same(name, value(*given) if arity else value, self.rust.evaluate(text, dict(zip("abcdefgh", given))))
+
+    def targets(self):
+        """targets_of, with the offset and the level in each form that a float has."""
+        for form in FORMS:
+            voice = {**record(VOICE), "stereo_offset": form, "level": form}
+            self.same(TARGETS + " at " + form.name, self.definitions.value(TARGETS)(voice), self.rust.call("targets_of", voice))
+
+    def marks(self):
+        """SMOOTH and LINES of each code."""
+        for code, kind in CODES.items():
+            self.same("SMOOTH of %d" % code, self.definitions.value(SMOOTH)(code), self.rust.evaluate("T::SMOOTH", {"T": kind}))
+            self.same("LINES of %d" % code, self.definitions.value(LINES)(code), self.rust.evaluate("T::LINES", {"T": kind}))
+
+    def kernels(self):
+        """Each code's kernel, PoleZero's at several numbers of active sections; a code that is none leaves everything."""
+        for code in CODES:
+            for active in (0, 1, 2, 3, 4, 5, 6, 7, 8, 9, 100) if code == 8 else (3,):
+                self.kernel(code, active)
+        for code in (0, 13):
+            given, _, _ = self.kernel_given(code, 3)
+            self.same("code %d" % code, self.kernel_value(given), [given["x"], given["state"], given["ring"]])
+
+    def kernel_given(self, code, active):
+        """A kernel's arguments by name, the Rust's settings and its lines."""
+        ours, theirs = table(active)
+        settings = record(("resonance", "inv_knee", "character", "x", "y", "ref_over_rate", "reference_ratio"))
+        given = {"code": code, "table": ours, **ours, "len": Tree("len"), "cursor": Tree("cursor"), "pitch": Tree("pitch"),
+                 "settings": settings, "state": floats("s", 20), "ring": Tree("ring"), "x": Tree("in")}
+        lines = {"": "Lines", "buf": [Tree("ring")], "len": Tree("len"), "cursor": Tree("cursor"), "slot": 0}
+        return given, {**settings, "inv_rate": Tree("inv_rate"), "pole_zero": theirs}, lines
+
+    def kernel_value(self, given):
+        """The definition's sample, states and ring."""
+        value = self.definitions.call(KERNEL, given, PARAMETERS)
+        return [value[field] for field in KERNEL_FIELDS]
+
+    def kernel(self, code, active):
+        """One kernel: its sample, its twenty states, its ring."""
+        given, settings, lines = self.kernel_given(code, active)
+        ours = self.kernel_value(given)
+        theirs = {"T": CODES[code], "lines": lines, "state": list(given["state"]), "x": given["x"], "pitch": given["pitch"], "p": settings}
+        out = self.rust.evaluate("T::tick(&mut lines, &mut state, x, pitch, &p)", theirs)
+        self.same("kernel %d at %d active" % (code, active), ours, [out, theirs["state"], lines["buf"][0]])
+
+    def blocks(self):
+        """A block of one frame, of every code, clean or not, steered or not, mono and stereo."""
+        for code in CODES:
+            for clean in (False, True):
+                for steered in (False, True):
+                    for channels in (1, 2):
+                        self.block(code, clean, steered, channels)
+
+    def block(self, code, clean, steered, channels):
+        """Run::go whole, on two voices, against the definitions of the block's constants and of each slot's tick."""
+        ours, theirs = table(5)
+        slots = [slot(i) for i in range(channels * VOICES)]
+        bank = rust_bank(clean, channels, slots, theirs)
+        offsets = [floats("sx", VOICES), floats("sy", VOICES)]
+        run = {"": "Run", "bank": bank, "pitch": floats("pitch", VOICES), "xy": offsets if steered else None,
+               "audio": [each["input"] for each in slots], "frames": 1}
+        variables = {}
+        self.rust.items["Run", "go"].run(Type("Run", T=CODES[code]), (run,), variables)
+        constants = self.definitions.value(CONSTANTS)(Tree("rate"), Tree("reference"), clean)
+        for field, variable in CONSTANT_FIELDS:
+            self.same("the block's " + field, constants[field], variables[variable])
+        for i, each in enumerate(slots):
+            channel, voice = divmod(i, VOICES)
+            steering = Tree("some", (offsets[0][voice], offsets[1][voice])) if steered else Tree("none")
+            given = {**each, "code": code, "constants": constants, "table": ours, **ours, "len": Tree("len"), "cursor": Tree("cursor"),
+                     "targets": floats("target%d_" % voice, 10), "pitch": run["pitch"][voice], "steering": steering,
+                     "sign": self.definitions.value(SIGN)(channels, channel)}
+            tick = self.definitions.call(TICK, given, PARAMETERS)
+            kept = [row[i] for part in ("smoothed", "morph_smoothed", "state") for row in bank[part]]
+            self.same("tick of %d, clean %s, steered %s, channel %d of %d, voice %d" % (code, clean, steered, channel, channels, voice),
+                      [tick[field] for field in TICK_FIELDS], [run["audio"][i], kept, bank["delay"][i]])
+
+    def points(self):
+        """A point's section, of each kind; the default state's frequencies and Qs."""
+        for kind in KINDS:
+            ours, theirs = point(kind, "")
+            section, rust_section = self.definitions.value(POINT_SECTION)(ours), self.rust.evaluate("a.section()", {"a": theirs})
+            self.same("section of " + kind, section, rust_section)
+            self.same("values of " + kind, self.definitions.value(VALUES)(section), self.rust.evaluate("a.values()", {"a": rust_section}))
+        ours, theirs = self.definitions.value(DEFAULT_STATE), self.rust.evaluate("State::default()", {})
+        for field in ("kind", "frequency", "q"):
+            self.same("default state, " + field, [p[field] for p in ours["points"]], [p[field] for p in theirs["points"]])
+
+    def tables(self):
+        """The table of some designs, and `section` of each of their points."""
+        for number in range(len(SKIPPED)):
+            ours, theirs = design(number)
+            table_of, made = self.definitions.value(TABLE)(ours), self.rust.evaluate("Table::of(&design)", {"design": theirs})
+            for field in ("active", "sections", "gain"):
+                self.same("design %d, table's %s" % (number, field), table_of[field], made[field])
+            for place in range(8):
+                given = {"design": theirs, "point": place, "x": Tree("x"), "y": Tree("y")}
+                self.same("design %d, section %d" % (number, place),
+                          self.definitions.value(DESIGN_SECTION)(ours, place, Tree("x"), Tree("y")),
+                          self.rust.evaluate("design.section(point, x, y).values()", given))
+
+
+def main():
+    """The command."""
+    parser = argparse.ArgumentParser(description=__doc__)
+    parser.add_argument("rust", nargs="?", default=RUST, help="folder of the published Rust: lane.rs and its neighbours")
+    parser.add_argument("crates", nargs="?", default=os.path.join(ROOT, "crates"), help="folder of the crates with the definitions")
+    parser.add_argument("--unreached", action="store_true", help="also list the definitions of the files read that no comparison uses")
+    options = parser.parse_args()
+    definitions = Definitions(options.crates, OPAQUE)
+    result = Comparison(Rust(options.rust), definitions).run()
+    if options.unreached:
+        print("\n".join("unreached: " + name for name in definitions.unreached()))
+    print("%d equal, %d different" % (result.equal, result.different))
+    return 1 if result.different or not result.equal else 0
+
+
+if __name__ == "__main__":
+    sys.exit(main())

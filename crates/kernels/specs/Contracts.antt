@@ -1,0 +1,62 @@
+-- For the proofs: nothing here must be believed.
+-- What the kernels' functions promise each other. Definitions only. Assumes nothing.
+use mathlib.Core.Path.{_≡_}
+use mathlib.Core.Bool.{false}
+use mathlib.Core.List.{List}
+use Prim.Native.Nat.{ℕ}
+use lib.Ieee.{Float, isNan}
+use Rattle.lane.specs.Floats.{_‼_}
+use Rattle.lines.specs.declared.Ring.{Ring}
+use Rattle.lines.specs.Ring.{cellsAt, withCells}
+use Rattle.filter.specs.declared.Pitch.{Pitch}
+use Rattle.filter.specs.declared.Ratio.{Ratio}
+use Rattle.extended.specs.declared.Settings.{Settings}
+use Rattle.pole_zero.specs.declared.Table.{Table}
+use Rattle.poles.specs.declared.Series.{Series}
+use Rattle.poles.specs.Numbers.{poleNumbers}
+use Rattle.kernels.specs.Kernels.{Kernel, kernelOf}
+use Rattle.kernels.specs.Tuning.{tuningOf, keyOf}
+
+-- a table of its sections and the rest
+abbrev pub tableWith : Series → (sections : List Float) → Table
+tableWith s sections = record { active = s .active; sections = sections; gain = s .gain }
+
+-- ---- what is kept from frame to frame
+
+-- a kept list: unless its pitch is NaN, its numbers are those of its pitch and character
+unfoldable pub Kept : (code : ℕ) → Ratio → (tuning : List Float) → Type 0
+Kept code reference t = isNan (t ‼ 8) ≡ false → t ≡ tuningOf code (record { 0 = t ‼ 8 }) (keyOf reference (t ‼ 9))
+
+-- PoleZero's kept list: unless its pitch is NaN, its numbers are those of its pitch, x and y
+unfoldable pub KeptSections : (sections : List Float) (active : ℕ) → Ratio → (blended : List Float) → Type 0
+KeptSections sections active reference t =
+    isNan (t ‼ 40) ≡ false → t ≡ poleNumbers sections active reference (record { 0 = t ‼ 40 }) (t ‼ 41) (t ‼ 42)
+
+-- a list's key is this one, and no NaN
+pub record TunedAt (t : List Float) (pitch character : Float) : Type 0 where
+  pub number : isNan (t ‼ 8) ≡ false
+  pub pitch-is : t ‼ 8 ≡ pitch
+  pub character-is : t ‼ 9 ≡ character
+
+pub record BlendedAt (t : List Float) (pitch x y : Float) : Type 0 where
+  pub number : isNan (t ‼ 40) ≡ false
+  pub pitch-is : t ‼ 40 ≡ pitch
+  pub x-is : t ‼ 41 ≡ x
+  pub y-is : t ‼ 42 ≡ y
+
+-- both lists are those of a pitch and settings; PoleZero alone reads the second
+pub record Tuned (code : ℕ) (table : Table) (pitch : Pitch) (p : Settings) (tuning blended : List Float) : Type 0 where
+  pub numbers : tuning ≡ tuningOf code pitch p
+  pub sections : code ≡ 8 → blended ≡ poleNumbers (table .sections) (table .active) (p .«ref_over_rate») pitch (p .x) (p .y)
+
+-- ---- what a kernel leaves
+
+-- the kernel on the ring `at` of a delay list
+abbrev pub kernelAt : (code : ℕ) → Table → Ring → Pitch → Settings → (state delay : List Float) (x : Float) → Kernel
+kernelAt code table at pitch p state delay x = kernelOf code table (at .len) (at .cursor) pitch p state (cellsAt delay at) x
+
+-- a kernel t leaves its sample, its states, and its slot's ring in the lent delay list, every other cell as it was
+pub record KernelLeaves (t : Kernel) (before : List Float) (at : Ring) (out : Float) (state delay : List Float) : Type 0 where
+  pub sample : out ≡ t .out
+  pub states : state ≡ t .state
+  pub cells : delay ≡ withCells before at (t .ring)
