@@ -1,7 +1,10 @@
 // The transistor and diode ladders. Each has what follows from the pitch and the settings alone, in a struct of its name, and the
 // step over the input and the states. `t` is the root's table.
 ghost use mathlib.Core.Path.{_≡_};
+ghost use mathlib.Core.List.{List};
+ghost use lib.Ieee.{Float};
 ghost use Rattle.extended.specs.Extended.{ticked};
+ghost use Rattle.stages.specs.Contracts.{stagesOf};
 ghost use Rattle.ladders.specs.Ladders.{transistorWith, stageGain, stageGains, transistorSolve, transistorStep};
 ghost use Rattle.ladders.specs.Ladders.{drivenCoefficients, drivenWith, drivenStep};
 ghost use Rattle.ladders.specs.Ladders.{diodeRows, acidWith, cleanLadderWith, diodeSolve, diodeFeedback, acidStep, cleanLadderStep};
@@ -47,24 +50,25 @@ fn stage_gain(g: f32, s: f32, t: &[u8; 1024]) -> f32
     gi / (1.0 + gi)
 }
 
-fn stage_gains(g: f32, state: &[f32; 20], t: &[u8; 1024]) -> Four
-    ensures { λ r. ⌜ r ≡ stageGains g (now (state .entry)) ⌝ }
+// The states are read once, before the roots, and handed on as s.
+fn stage_gains(g: f32, s: Four, t: &[u8; 1024]) -> Four
+    ensures { λ r. ⌜ ((state : List Float) → s ≡ stagesOf state → r ≡ stageGains g state) ⌝ }
 {
     Four(
-        stage_gain(g, state[0], t),
-        stage_gain(g, state[1], t),
-        stage_gain(g, state[2], t),
-        stage_gain(g, state[3], t),
+        stage_gain(g, s.0, t),
+        stage_gain(g, s.1, t),
+        stage_gain(g, s.2, t),
+        stage_gain(g, s.3, t),
     )
 }
 
-fn transistor_solve(state: &[f32; 20], gg: Four, k: f32, x: f32) -> Stages
-    ensures { λ r. ⌜ r ≡ transistorSolve (now (state .entry)) gg k x ⌝ }
+fn transistor_solve(s: Four, gg: Four, k: f32, x: f32) -> Stages
+    ensures { λ r. ⌜ ((state : List Float) → s ≡ stagesOf state → r ≡ transistorSolve state gg k x) ⌝ }
 {
-    let b0 = (1.0 - gg.0) * state[0];
-    let b1 = (1.0 - gg.1) * state[1];
-    let b2 = (1.0 - gg.2) * state[2];
-    let b3 = (1.0 - gg.3) * state[3];
+    let b0 = (1.0 - gg.0) * s.0;
+    let b1 = (1.0 - gg.1) * s.1;
+    let b2 = (1.0 - gg.2) * s.2;
+    let b3 = (1.0 - gg.3) * s.3;
     let big_g = gg.0 * gg.1 * gg.2 * gg.3;
     let sum = ((b0 * gg.1 + b1) * gg.2 + b2) * gg.3 + b3;
     let input = x * (k * LADDER_COMPENSATION + 1.0);
@@ -85,9 +89,9 @@ fn transistor_solve(state: &[f32; 20], gg: Four, k: f32, x: f32) -> Stages
 pub fn transistor_step(c: TransistorLadder, state: &mut [f32; 20], x: f32, t: &[u8; 1024]) -> f32
     ensures { λ r. ⌜ ticked r (now (state .exit)) ≡ transistorStep c (now (state .entry)) x ⌝ }
 {
+    let s = stages::stages_of(state);
     let k = c.base * lane::saturation_gain(state[4], c.inv_knee, t);
-    let gg = stage_gains(c.g, state, t);
-    let y = transistor_solve(state, gg, k, x);
+    let y = transistor_solve(s, stage_gains(c.g, s, t), k, x);
     stages::store_ladder(state, y);
     y.y4
 }

@@ -3,9 +3,8 @@
 -- over the loop's turns, or by cutting the list at the piece's ends. Assumes nothing.
 use mathlib.Core.Path.{_≡_, refl, sym, ap, _∙_, subst}
 use mathlib.Core.Logic.{_≢_}
-use Prim.Native.Nat.{ℕ, zero, suc, _+_, _-_, _*_, _/_, _%_, _≤_, _<_}
+use Prim.Native.Nat.{ℕ, zero, suc, _+_, _-_, _*_, _%_, _≤_, _<_}
 use native.Mathlib.Nat.{le-refl, le-step, not-suc-le-zero, mod-eq-of-lt, mul-add-mod-self-right, mul-le-mul-right, zero-add, suc-add}
-use native.Mathlib.Nat.{add-zero, add-suc, zero-mul, suc-mul, div-add-mod'}
 use native.Mathlib.Decide.{decLe, ℕ-discrete}
 use native.Mathlib.Omega.{arith}
 use mathlib.Core.List.{List, [], _∷_, _++_, append-assoc, append-nil}
@@ -47,30 +46,6 @@ pub upto-same {ℓ} : {X : Type ℓ} (g h : ℕ → X → X) (n : ℕ) (x : X)
     → ((k : ℕ) (y : X) → k < n → g k y ≡ h k y) → upto g n x ≡ upto h n x
 upto-same g h zero x e = refl
 upto-same g h (suc n) x e = e n (upto g n x) (le-refl (suc n)) ∙ ap (h n) (upto-same g h n x (λ k y b. e k y (le-step b)))
-
--- a turns and then b are a + b
-upto-add {ℓ} : {X : Type ℓ} (g : ℕ → X → X) (a b : ℕ) (x : X) → upto g (a + b) x ≡ upto (λ k. g (a + k)) b (upto g a x)
-upto-add g a zero x = ap (λ (n : ℕ). upto g n x) (add-zero a)
-upto-add g a (suc b) x = ap (λ (n : ℕ). upto g n x) (add-suc a b) ∙ ap (g (a + b)) (upto-add g a b x)
-
--- a loop over m rows of n columns is one loop over their m * n places
-pub upto-flat {ℓ} : {X : Type ℓ} (g : ℕ → ℕ → X → X) (n m : ℕ) (x : X)
-    → upto (λ s. g (s / n) (s % n)) (m * n) x ≡ upto (λ c. upto (g c) n) m x
-upto-flat g n zero x = ap (λ (k : ℕ). upto (λ s. g (s / n) (s % n)) k x) (zero-mul n)
-upto-flat {X = X} g n (suc m) x =
-    let h : ℕ → X → X = λ s. g (s / n) (s % n) in
-    ap (λ (k : ℕ). upto h k x) (suc-mul m n)
-    ∙ upto-add h (m * n) n x
-    ∙ upto-same (λ k. h (m * n + k)) (g m) n (upto h (m * n) x) (λ k y b. λ i. g (row k b i) (column k b i) y)
-    ∙ ap (upto (g m) n) (upto-flat g n m x)
-  where
-    column : (k : ℕ) → k < n → (m * n + k) % n ≡ k
-    column k b = mul-add-mod-self-right m n k ∙ mod-eq-of-lt b
-
-    row : (k : ℕ) → k < n → (m * n + k) / n ≡ m
-    row k b =
-        flat-high n ((m * n + k) / n) m k k b b
-        (ap (λ (r : ℕ). (m * n + k) / n * n + r) (sym (column k b)) ∙ div-add-mod' (m * n + k) n)
 
 -- turn i makes D of U; every other turn keeps both
 pub upto-focus {ℓ} : {X : Type ℓ} (U D : X → Type 0) (g : ℕ → X → X) (n i : ℕ) (x : X)

@@ -1,14 +1,15 @@
 -- For the proofs: nothing here must be believed.
 -- The code's ticks and slots are those of the definitions: the numbers that the code worked out are those of the setup. Assumes nothing.
-use mathlib.Core.Path.{_≡_, refl, ap, _∙_}
-use Prim.Native.Nat.{ℕ, _+_, _*_}
+use mathlib.Core.Path.{_≡_, refl, sym, ap, _∙_}
+use Prim.Native.Nat.{ℕ, _+_, _*_, _≤_, _<_, zero-le}
+use native.Mathlib.Omega.{arith}
+use native.Mathlib.Numerals.{add-one}
 use mathlib.Core.Bool.{Bool, true, false}
 use mathlib.Core.Option.{some}
 use mathlib.Core.List.{List}
 use lib.Ieee.{Float}
-use lib.ListN.{set, take, drop}
+use lib.ListN.{length, set, take, drop}
 use Rattle.parts.specs.Parts.{upto, piece, patch}
-use Rattle.parts.specs.Laws.{upto-flat}
 use Rattle.lane.specs.Floats.{_‼_}
 use Rattle.lines.specs.declared.Ring.{Ring}
 use Rattle.lines.specs.Lines.{ringLen}
@@ -20,7 +21,8 @@ use Rattle.voices.specs.Calls.{cursorAfter, steeringAt, tickAt, frameOf, frames
 use Rattle.slots.specs.declared.Prepared.{Prepared}
 use Rattle.slots.specs.declared.Slot.{Slot}
 use Rattle.slots.specs.Engine.{tickOf}
-use Rattle.slots.specs.Slots.{engineAt, blockOn, blockAt, bankAt, blockRun, Worked, Placed, frameIn, slotIn, slotsIn}
+use Rattle.slots.specs.Slots.{engineAt, blockOn, blockAt, bankAt, blockRun, Worked, Placed, Buffers, Lists}
+use Rattle.slots.specs.Slots.{frameIn, channelIn, Swept}
 
 -- x and y, read where the mark says so
 pub steering-is : (steered : Bool) (px py x y : Float) → (steered ≡ true → px ≡ x) → (steered ≡ true → py ≡ y)
@@ -96,10 +98,40 @@ pub targets-piece : (v from : ℕ) (xs goals : List Float)
 unfolding piece
 targets-piece v from xs goals e h = h ∙ ap (λ (k : ℕ). take targetsWidth (drop k xs)) e
 
--- The loop over the slots is the definitions' block: a frame reads its input in the lists, not in the block's audio.
+-- The channels' loop is the definitions' block: a frame reads its input in the lists, not in the block's audio.
 pub block-is : (e : Prepared) (sections tg pitch x y rs ds audio : List Float)
-    → slotsIn e sections tg pitch x y (e .channels * e .voices) (blockRun rs ds audio)
+    → upto (channelIn e sections tg pitch x y) (e .channels) (blockRun rs ds audio)
     ≡ blockOf (engineAt e sections) (e .voices) (blockOn e pitch x y audio) (bankAt e tg rs ds)
-unfolding slotsIn blockOf slotOf framesOf frameOf
-block-is e sections tg pitch x y rs ds audio =
-    upto-flat (slotIn e sections tg pitch x y) (e .voices) (e .channels) (blockRun rs ds audio)
+unfolding blockOf slotOf framesOf frameOf
+block-is e sections tg pitch x y rs ds audio = refl
+
+-- ---- one turn more of a loop over the voices or the channels
+
+module _ (g : ℕ → BlockRun → BlockRun) (n : ℕ) (start : BlockRun) where
+  pub swept-start : Swept g n start 0 start
+  swept-start = record { within = zero-le; lists = refl; records = refl; delay = refl; audio = refl }
+
+  pub swept-again : (i : ℕ) (w w' : BlockRun) → Swept g n start i w → i < n → w' ≡ g i w
+      → length (w' .records) ≡ length (w .records) → length (w' .delay) ≡ length (w .delay) → length (w' .audio) ≡ length (w .audio)
+      → Swept g n start (i + 1) w'
+  swept-again i w w' s h e r d a = record {
+    within = omega arith;
+    lists = e ∙ ap (g i) (s .lists) ∙ ap (λ (k : ℕ). upto g k start) (sym (add-one i));
+    records = r ∙ s .records;
+    delay = d ∙ s .delay;
+    audio = a ∙ s .audio;
+  }
+
+  pub swept-end : (i : ℕ) (w : BlockRun) → Swept g n start i w → n ≤ i → w ≡ upto g n start
+  swept-end i w s h =
+      let e : i ≡ n = omega (arith, s .within) in
+      s .lists ∙ ap (λ (k : ℕ). upto g k start) e
+
+-- the lists that a turn begins with are as long as they should be
+pub swept-lists : {e : Prepared} {tg : List Float} (g : ℕ → BlockRun → BlockRun) (n i : ℕ) (start w : BlockRun) → Swept g n start i w
+    → Lists e tg (start .records) → Lists e tg (w .records)
+swept-lists g n i start w s l = record { targets = l .targets; records = s .records ∙ l .records }
+
+pub swept-buffers : {e : Prepared} {ps xs ys : List Float} (g : ℕ → BlockRun → BlockRun) (n i : ℕ) (start w : BlockRun) → Swept g n start i w
+    → Buffers e ps xs ys (start .delay) (start .audio) → Buffers e ps xs ys (w .delay) (w .audio)
+swept-buffers g n i start w s b = record { pitch = b .pitch; x = b .x; y = b .y; delay = s .delay ∙ b .delay; audio = s .audio ∙ b .audio }

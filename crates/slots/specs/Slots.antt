@@ -2,7 +2,7 @@
 -- What the code of a block holds, read as the definitions' setup, block and lists, and what its functions promise each other.
 -- Definitions only. Assumes nothing.
 use mathlib.Core.Path.{_≡_}
-use Prim.Native.Nat.{ℕ, _+_, _*_, _/_, _%_, _≤_, _<_}
+use Prim.Native.Nat.{ℕ, _+_, _*_, _≤_, _<_}
 use mathlib.Core.Bool.{true}
 use mathlib.Core.List.{List, [], _++_}
 use lib.Ieee.{Float}
@@ -53,7 +53,6 @@ slotRun params state ds a = record { rec = params ++ state; delay = ds; audio = 
 
 -- what was worked out once, of numbers that were accepted
 pub record Worked (e : Prepared) : Type 0 where
-  pub some-voice : 0 < e .voices
   pub voices : e .voices ≤ 16
   pub channels : e .channels ≤ 2
   pub frames : e .frames ≤ mostFrames
@@ -69,12 +68,6 @@ pub record Placed (e : Prepared) (p : Slot) : Type 0 where
   pub number : p .number ≡ p .channel * e .voices + p .voice
   pub below : p .number < e .slots
   pub sign : p .sign ≡ signOf (e .channels) (p .channel)
-
--- slot s, in the order of the lists
-pub record PlacedAt (e : Prepared) (s : ℕ) (p : Slot) : Type 0 where
-  pub placed : Placed e p
-  pub channel-is : p .channel ≡ s / e .voices
-  pub voice-is : p .voice ≡ s % e .voices
 
 -- the lists of a block are as long as they should be
 pub record Buffers (e : Prepared) (ps xs ys ds au : List Float) : Type 0 where
@@ -98,6 +91,16 @@ frameIn e sections tg pitch x y p = frameOf (engineAt e sections) (e .voices) (b
 abbrev pub slotIn : Prepared → (sections targets pitch x y : List Float) (channel voice : ℕ) → BlockRun → BlockRun
 slotIn e sections tg pitch x y c v = slotOf (engineAt e sections) (e .voices) (blockAt e pitch x y) (piece targetsWidth v tg) (e .cursor) c v
 
--- the first n slots, in the order of the lists
-unfoldable pub slotsIn : Prepared → (sections targets pitch x y : List Float) (n : ℕ) → BlockRun → BlockRun
-slotsIn e sections tg pitch x y n w = upto (λ s. slotIn e sections tg pitch x y (s / e .voices) (s % e .voices)) n w
+-- every voice of a channel
+abbrev pub channelIn : Prepared → (sections targets pitch x y : List Float) (channel : ℕ) → BlockRun → BlockRun
+channelIn e sections tg pitch x y c w = upto (slotIn e sections tg pitch x y c) (e .voices) w
+
+-- ---- a loop over the voices, or over the channels
+
+-- after i of n turns of g the lists are those that the turns make, each as long as at the start
+pub record Swept (g : ℕ → BlockRun → BlockRun) (n : ℕ) (start : BlockRun) (i : ℕ) (w : BlockRun) : Type 0 where
+  pub within : i ≤ n
+  pub lists : w ≡ upto g i start
+  pub records : length (w .records) ≡ length (start .records)
+  pub delay : length (w .delay) ≡ length (start .delay)
+  pub audio : length (w .audio) ≡ length (start .audio)

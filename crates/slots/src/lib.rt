@@ -10,8 +10,8 @@ ghost use Rattle.lane.specs.Floats.{_‼_, zero};
 ghost use Rattle.extended.specs.Extended.{linesMark};
 ghost use Rattle.voices.specs.Calls.{targetsWidth, recordWidth, statesWidth, blockOf};
 ghost use Rattle.run.specs.Contracts.{Keeps};
-ghost use Rattle.slots.specs.Slots.{engineAt, blockOn, bankAt, blockRun, slotRun, Worked, Placed, PlacedAt, Buffers, Lists};
-ghost use Rattle.slots.specs.Slots.{frameIn, slotIn};
+ghost use Rattle.slots.specs.Slots.{engineAt, blockOn, bankAt, blockRun, slotRun, Worked, Placed, Buffers, Lists};
+ghost use Rattle.slots.specs.Slots.{frameIn, slotIn, channelIn};
 use filter::Pitch;
 use lines::Ring;
 use run::FrameInput;
@@ -129,16 +129,16 @@ pub struct Slot {
     pub sign: f32,
 }
 
-// Slot s, in the order of the lists: by channel, then by voice.
-fn slot_at(e: Prepared, s: usize) -> Slot
-    requires { ⌜ (Worked e) × (s < e .slots) ⌝ }
-    ensures { λ r. ⌜ PlacedAt e s r ⌝ }
+// The slot of a channel and a voice.
+fn slot_at(e: Prepared, channel: usize, voice: usize) -> Slot
+    requires { ⌜ (Worked e) × (channel < e .channels) × (voice < e .voices) ⌝ }
+    ensures { λ r. ⌜ (Placed e r) × (r .channel ≡ channel) × (r .voice ≡ voice) ⌝ }
 {
-    let channel = s / e.voices;
+    let number = place_at(channel, e.voices, voice, e.channels, e.slots);
     Slot {
         channel: channel,
-        voice: s % e.voices,
-        number: s,
+        voice: voice,
+        number: number,
         sign: run::sign(e.channels, channel),
     }
 }
@@ -317,6 +317,47 @@ fn run_slot(
     store_record(records, p.number, &params, &state);
 }
 
+// A block through the slots of one channel.
+fn run_channel(
+    e: Prepared,
+    sections: &[f32; 160],
+    roots: &[u8; 1024],
+    targets: &[f32],
+    records: &mut [f32],
+    delay: &mut [f32],
+    pitch: &[f32],
+    x: &[f32],
+    y: &[f32],
+    audio: &mut [f32],
+    channel: usize,
+)
+    requires { ⌜ (Worked e) × (Lists e (now targets) (now records)) × (Buffers e (now pitch) (now x) (now y) (now delay) (now audio))
+        × (channel < e .channels) ⌝ }
+    ensures { λ _. ⌜ blockRun (now (records .exit)) (now (delay .exit)) (now (audio .exit))
+        ≡ channelIn e (now (sections .entry)) (now (targets .entry)) (now (pitch .entry)) (now (x .entry)) (now (y .entry)) channel
+        (blockRun (now (records .entry)) (now (delay .entry)) (now (audio .entry))) ⌝ }
+{
+    let voices = e.voices;
+    let mut v: usize = 0;
+    while v < voices {
+        let p = slot_at(e, channel, v);
+        run_slot(
+            e,
+            sections,
+            roots,
+            targets,
+            records,
+            delay,
+            pitch,
+            x,
+            y,
+            audio,
+            p,
+        );
+        v += 1;
+    }
+}
+
 // A block through every slot.
 pub fn run_block(
     e: Prepared,
@@ -336,11 +377,10 @@ pub fn run_block(
         (blockOn e (now (pitch .entry)) (now (x .entry)) (now (y .entry)) (now (audio .entry)))
         (bankAt e (now (targets .entry)) (now (records .entry)) (now (delay .entry))) ⌝ }
 {
-    let slots = e.slots;
-    let mut s: usize = 0;
-    while s < slots {
-        let p = slot_at(e, s);
-        run_slot(
+    let channels = e.channels;
+    let mut c: usize = 0;
+    while c < channels {
+        run_channel(
             e,
             sections,
             roots,
@@ -351,8 +391,8 @@ pub fn run_block(
             x,
             y,
             audio,
-            p,
+            c,
         );
-        s += 1;
+        c += 1;
     }
 }

@@ -1,6 +1,7 @@
 // What the ladders and the expanders share: the numbers of their stages, and the states that the stages leave.
 ghost use mathlib.Core.Path.{_≡_};
 ghost use Rattle.stages.specs.Stages.{ladderStates};
+ghost use Rattle.stages.specs.Contracts.{stagesOf};
 
 // One number a stage, from the first on.
 pub struct Four(pub f32, pub f32, pub f32, pub f32);
@@ -14,6 +15,13 @@ pub struct Stages {
     pub y2: f32,
     pub y3: f32,
     pub y4: f32,
+}
+
+// The first four states.
+pub fn stages_of(state: &[f32; 20]) -> Four
+    ensures { λ r. ⌜ r ≡ stagesOf (now (state .entry)) ⌝ }
+{
+    Four(state[0], state[1], state[2], state[3])
 }
 
 // A ladder's states after its stages gave y: the fourth output is kept for the next feedback.

@@ -36,7 +36,6 @@ run-block-requires c κs =
     let len = c .before .before .before .before .before .ring-len in
     let wide : ℕ = a .frames * a .setup .voices in (
       record {
-        some-voice = s .some-voice;
         voices = s .voices;
         channels = s .channels;
         frames = k .most;

@@ -1,28 +1,16 @@
--- `slot_at` meets its contract: a place's row and column.
-use mathlib.Core.Path.{refl, sym}
-use native.Mathlib.Nat.{div-lt-iff-lt-mul, mod-lt, div-add-mod'}
-use native.Mathlib.Omega.{arith}
+-- `slot_at` meets its contract: the slot's place among the slots.
+use mathlib.Core.Path.{refl}
 use Rattle.slots.proofs.slot_at.Statement.{statement}
 use Rattle.slots.proofs.slot_at.Tie as tie
 
 returns : tie.Need-returns
 returns c =
-    let s = c .before .before .before in
-    let e = s .args .e in
-    let g = s .pre .0 in
-    record {
-      placed = record {
-        channel = div-lt-iff-lt-mul (g .some-voice) .1 (omega (arith, g .slots, s .pre .1));
-        voice = mod-lt (s .args .s) (g .some-voice);
-        number = sym (div-add-mod' (s .args .s) (e .voices));
-        below = s .pre .1;
-        sign = c .sign .ensures;
-      };
-      channel-is = refl;
-      voice-is = refl;
-    }
+    let s = c .before .before in
+    let at = c .before .place-at .ensures in (
+      record { channel = s .pre .1; voice = s .pre .2; number = at .0; below = at .1; sign = c .sign .ensures },
+      refl,
+      refl,
+    )
 
 pub slot-at-spec : {M : Type 1} → statement M
-slot-at-spec =
-    tie.close
-    (tie.spec (λ c. omega (arith, c .before .pre .0 .some-voice)) (λ c. omega (arith, c .before .before .pre .0 .some-voice)) (λ c κs. tt) returns)
+slot-at-spec = tie.close (tie.spec (λ c κs. (c .pre .1, c .pre .2, c .pre .0 .slots)) (λ c κs. tt) returns)
