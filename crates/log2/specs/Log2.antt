@@ -6,6 +6,7 @@ use lib.IntN.{ℤ, pos, negsuc, _+ℤ_, _*ℤ_}
 use lib.Dec.{leb}
 use lib.Ieee.{Float, nan, inf, fin, binary32, up, down, minus, size, round, le, lt}
 use Rattle.lane.specs.Floats.{decimal, whole}
+use Rattle.lane.specs.Floats as floats
 
 -- k rounds: r is squared and scaled by 2 ^ -30; from 2 ^ 31 on it is halved and F gets the digit 1, below that F gets 0
 unfoldable pub rounds : ℕ → ℕ → ℕ → ℕ
@@ -45,4 +46,4 @@ sixtyFour = whole 64
 -- from 1 / 64 up and below 64; any other q, a NaN too, gives 0
 unfoldable pub logOf : Float → Float
 unfolding logUnits le lt
-logOf q = cond (le sixtyFourth q && lt q sixtyFour) (logUnits (unitsOf q)) (whole 0)
+logOf q = cond (le sixtyFourth q && lt q sixtyFour) (logUnits (unitsOf q)) floats.zero

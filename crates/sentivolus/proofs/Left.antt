@@ -10,7 +10,8 @@ use Rattle.checks.specs.Setup.{engine}
 use Rattle.bank.specs.declared.Answer.{Answer as CodeAnswer}
 use Rattle.bank.specs.declared.Answer.the-variants.{Refused, Kept, Rendered}
 use Rattle.bank.specs.Bank.{answerOf, cursorOf, before, after, BlockDoes}
-use Rattle.sentivolus.specs.Calls.{numberOf, framesOr, numberIn, framesIn, audioIn, ListsLeft, BlockLeft}
+use Rattle.sentivolus.specs.Calls.{numberIn, framesIn, audioIn, ListsLeft, BlockLeft}
+use Rattle.sentivolus.specs.Answers.{numberOf, framesOr}
 
 number-is : (a : CodeAnswer) (audio : List Float) → numberOf a ≡ numberIn (answerOf a audio ∷ [])
 unfolding numberOf answerOf

@@ -10,8 +10,6 @@ use Rattle.voices.specs.Calls.{Bank, Block, Call, callBlock, Answer, refusedCal
 use Rattle.checks.specs.declared.Setup.{Setup}
 use Rattle.checks.specs.Setup.{engine}
 use Rattle.bank.specs.Bank.{before, openBy}
-use Rattle.bank.specs.declared.Answer.{Answer as CodeAnswer}
-use Rattle.bank.specs.declared.Answer.the-variants.{Refused, Kept, Rendered}
 
 -- a setup from the numbers that a caller in C hands over
 abbrev pub setupOf : (code : ℕ) (rate reference : Float) (voices channels : ℕ) (clean : Bool)
@@ -42,32 +40,21 @@ paramsOf resonance drive saturation character stereoOffset mix level morphX morp
       «morph_y» = morphY;
     }
 
--- the answer's number: a refusal's, or 0
-unfoldable pub numberOf : CodeAnswer → ℕ
-numberOf (Refused k) = k
-numberOf (Kept cursor) = 0
-numberOf (Rendered cursor frames) = 0
-
--- the frames rendered, or the number that stood there
-unfoldable pub framesOr : CodeAnswer → ℕ → ℕ
-framesOr (Refused k) before = before
-framesOr (Kept cursor) before = before
-framesOr (Rendered cursor frames) before = frames
-
--- the same of the newest answer of a run
+-- the number of a run's newest answer: a refusal's, or 0
 abbrev pub numberIn : List Answer → ℕ
 numberIn [] = 0
 numberIn (refusedCall k ∷ l) = k
 numberIn (kept cursor ∷ l) = 0
 numberIn (rendered cursor frames audio ∷ l) = 0
 
+-- the frames that it rendered, or the number that stood there
 abbrev pub framesIn : List Answer → ℕ → ℕ
 framesIn [] before = before
 framesIn (refusedCall k ∷ l) before = before
 framesIn (kept cursor ∷ l) before = before
 framesIn (rendered cursor frames audio ∷ l) before = frames
 
--- the audio that a block leaves: the rendered one, or as it was
+-- the audio that it left: the rendered one, or as it was
 abbrev pub audioIn : List Answer → List Float → List Float
 audioIn [] before = before
 audioIn (refusedCall k ∷ l) before = before

@@ -1,6 +1,6 @@
 -- `sentivolus::calls::frames_or` meets its contract: by the cases of the answer.
 use borrow.Author.Needs.{needs}
-use Rattle.sentivolus.specs.Calls.{framesOr}
+use Rattle.sentivolus.specs.Answers.{framesOr}
 use Rattle.sentivolus.proofs.calls.frames_or.Statement.{statement}
 use Rattle.sentivolus.proofs.calls.frames_or.Tie as tie
 

@@ -1,6 +1,6 @@
 -- `sentivolus::calls::number_of` meets its contract: by the cases of the answer.
 use borrow.Author.Needs.{needs}
-use Rattle.sentivolus.specs.Calls.{numberOf}
+use Rattle.sentivolus.specs.Answers.{numberOf}
 use Rattle.sentivolus.proofs.calls.number_of.Statement.{statement}
 use Rattle.sentivolus.proofs.calls.number_of.Tie as tie
 
