@@ -1,7 +1,7 @@
 #!/usr/bin/env bash
 # The test command. The layout; the definitions against the published Rust's text, where that is at hand; the toolchain's gate over every
-# listed crate (proofs, must-fail edits, programs against stored answers); then, where cargo is, the linked library: its Rust wrapper's
-# tests, and vector files replayed bit for bit.
+# listed crate (proofs, must-fail edits, programs against stored answers); run.sh; then the linked library: the C header and example, and, where
+# cargo is, the Rust wrapper, the comparison programs, and vector files replayed bit for bit.
 # The last line is 'N passed, M failed'.
 set -u
 cd "$(dirname "$0")" || exit 1
@@ -29,27 +29,33 @@ else
 fi
 
 log=$(mktemp)
+trap 'rm -f "$log"' EXIT
 # more jobs than cores, since rt waits for a whole batch
 RT_JOBS=${RT_JOBS:-6} rt ci | tee "$log"
 read -r n _ m _ < <(tail -n 1 "$log")
-rm -f "$log"
 case "$n$m" in *[!0-9]* | '') n=0 m=1 ;; esac
 passed=$((passed + n)) failed=$((failed + m))
 [ "$failed" -eq 0 ] || finish
 
+count "run.sh and Impulse" tests/run.sh
+count "static library" ./prove.sh staticlib sentivolus target/staticlib/libsentivolus.a
+if command -v cc >/dev/null && command -v c++ >/dev/null; then
+    count "C header and example" c/test.sh
+else
+    echo "skipped, for want of cc or c++: the C header's tests and its example"
+fi
 if ! command -v cargo >/dev/null; then
     echo "skipped, for want of cargo: the Rust wrapper's tests and the replay through the linked library"
     finish
 fi
-replays() { compare/replay.sh "$1" <"$2" | cmp - "$2"; }
-count "static library and comparison program" compare/build.sh
-count "Rust wrapper's tests" cargo test --quiet --release --offline --manifest-path rust/Cargo.toml --test bank
-count "leaves of the repository" replays leaf crates/leaves/stdin
-count "scenarios of the repository" replays run crates/scenarios/stdin
+count "Rust wrapper" rust/test.sh
+count "comparison programs' tests" cargo test --quiet --release --offline --manifest-path compare/Cargo.toml
+count "leaves of the repository" compare/replay.sh check leaf crates/leaves/stdin
+count "scenarios of the repository" compare/replay.sh check run crates/scenarios/stdin
 vectors=../shared/vectors
 if [ -d "$vectors" ]; then
-    for f in traps scenarios; do count "$f of the vectors beside the repository" replays run "$vectors/$f.txt"; done
-    count "leaves of the vectors beside the repository" replays leaf "$vectors/leaves.txt"
+    for f in traps scenarios; do count "$f of the vectors beside the repository" compare/replay.sh check run "$vectors/$f.txt"; done
+    count "leaves of the vectors beside the repository" compare/replay.sh check leaf "$vectors/leaves.txt"
 else
     echo "skipped: no vectors beside the repository"
 fi

@@ -1,68 +1,257 @@
-/* The proved voice filter bank: link target/staticlib/libsentivolus.a (made by `rt staticlib sentivolus`, x86-64 Linux).
+/* Sentivolus, the proved voice filter bank: its interface for C and C++.
  *
- * Ownership: the caller owns every list and lends it for the call; nothing is kept between calls. A list is a pointer and its
- * length in elements. Lists of one call must not overlap where one of them is written. An empty list may have any pointer.
- * Floats may hold any bits. Every number may be as large as its type holds: a wrong one is refused.
+ * Link target/staticlib/libsentivolus.a (x86-64 Linux; `rt staticlib sentivolus` writes it). It needs no other library.
+ * example.c, beside this file, opens a bank and renders a chord.
  *
- * Layouts (slot = channel * voices + voice):
- *   targets  10 a voice: resonance, drive, drive gain, inverse knee, offset, mix, level, character, x, y
- *   records  30 a slot: ten smoothed numbers in the order of targets, then twenty states
- *   delay    sentivolus_ring_len(rate) a slot
- *   pitch, x, y   [frame][voice]; x and y are empty in an unsteered block
- *   audio    [frame][channel][voice], filtered in place
- *   sections 160 numbers: by section, then octaves, damping, high, band, low, then the terms c, x, y, xy of each
+ * 1. Numbers and names   2. Structs   3. The archive's symbols   4. The calls
+ * The calls of part 4 take structs and see to the float environment: use these. They are inline, over the symbols of part 3, which take
+ * every number by itself.
  *
- * open, set, start and block answer 0, or the number of a refusal, which changes no list and no number behind a pointer:
- *   1 rate       NaN, below 8,000 or above 384,000      6 store   a lent list of another length
- *   2 tuning     reference NaN, below 1 or above 20,000  7 voice   not below voices
- *   3 polyphony  voices not 1 to 16                      8 knob    NaN resonance, drive, saturation, character or mix
- *   4 layout     channels not 1 or 2                     9 frames  0 or above 4,096
- *   5 structure  code not 1 to 12                       10 buffer  wrong pitch, x, y or audio length
- * sentivolus_section answers 0, or 11 for a point number above 7.
+ * What holds for every call
+ *
+ *   Floats      IEEE 754 binary32, rounding to nearest, subnormals kept. That is what was proved; where MXCSR flushes subnormals (FTZ,
+ *               DAZ), as on many audio threads, or rounds another way, other bits come out. The calls of part 4 put MXCSR at its
+ *               default while they run and give the caller's back. The symbols of part 3 ask for it: see there.
+ *   Arguments   Any float may hold any bits and any number may be as large as its type holds: a wrong one is refused, or held to its
+ *               range as said where it stands. A bool is false or true.
+ *   NaN         All NaNs are one value: the sign and payload of a NaN in an answer are free. No other bit is.
+ *   Refusals    A refused call changes no list, no struct and no number behind a pointer.
+ *   Ownership   The caller owns every list and struct and lends it for the call; nothing is kept between calls.
+ *   Pointers    A list is a pointer and its length in elements. An empty list may have any pointer, NULL too. Every other pointer must be
+ *               valid and aligned as its type asks; none is tested.
+ *   Aliasing    What a call writes (a list, *cursor, *rendered, out) overlaps nothing else that the call is lent.
+ *   Threads     The archive has no variables. Any thread may call it; two calls at once share no list that one of them writes.
+ *   Real time   No allocation, no lock, no system call. Less than 8 KiB of stack. The time goes with voices x channels x frames;
+ *               numbers in the subnormal range take several times as long (docs/PERFORMANCE.md).
+ *
+ * Layouts (slot = channel * voices + voice)
+ *
+ *   targets     10 a voice: resonance, drive, drive gain, inverse knee, offset, mix, level, character, x, y
+ *   records     30 a slot: ten smoothed numbers in the order of targets, then twenty states
+ *   delay       sentivolus_ring_len(rate) a slot: the ring
+ *   pitch, x, y [frame][voice]; x and y are empty in an unsteered block
+ *   audio       [frame][channel][voice], filtered in place
+ *   sections    160 numbers: by section, then octaves, damping, high, band, low, then the terms c, x, y, xy of each
  */
 #ifndef SENTIVOLUS_H
 #define SENTIVOLUS_H
 #include <stdbool.h>
 #include <stddef.h>
 #include <stdint.h>
+#include <xmmintrin.h>
 #ifdef __cplusplus
 extern "C" {
 #endif
 
+/* ---- 1. Numbers and names ---- */
+
+/* 10,000 x major + 100 x minor + patch. It grows with every change of a call, a struct or a layout; sentivolus_version() gives that of the
+ * archive. */
+#define SENTIVOLUS_VERSION 200
+
+enum {
+    SENTIVOLUS_MOST_VOICES = 16,
+    SENTIVOLUS_MOST_CHANNELS = 2,
+    SENTIVOLUS_MOST_FRAMES = 4096, /* in a block */
+    SENTIVOLUS_PARAMS = 9,         /* settings of a voice */
+    SENTIVOLUS_TARGETS = 10,       /* numbers a voice */
+    SENTIVOLUS_RECORD = 30,        /* numbers a slot */
+    SENTIVOLUS_STATES = 4,         /* of a pole-zero design */
+    SENTIVOLUS_POINTS = 8,         /* a state */
+    SENTIVOLUS_SECTIONS = 160      /* numbers of a pole-zero table */
+};
+
+/* The structures that a bank's filters can have. */
+typedef enum sentivolus_code {
+    SENTIVOLUS_BUZZ_MORPH = 1,             /* a shaped state-variable stage; character goes from low-pass by notch to high-pass */
+    SENTIVOLUS_DJ_SWEEP = 2,               /* low-pass below the middle of the cutoff's range, flat at it, high-pass above */
+    SENTIVOLUS_DIFFUSER = 3,               /* all-pass stages in series; character sets how many, 1 to 8 */
+    SENTIVOLUS_TRANSISTOR_LADDER = 4,      /* a ladder of saturating stages; character slows the cutoff */
+    SENTIVOLUS_DIODE_LADDER = 5,           /* coupled stages after an asymmetric shaper; character slows the cutoff */
+    SENTIVOLUS_CLEAN_LADDER = 6,           /* coupled stages without the shaper; character slows the cutoff */
+    SENTIVOLUS_DRIVEN_LADDER = 7,          /* the transistor ladder, overdriven by character */
+    SENTIVOLUS_POLE_ZERO = 8,              /* up to eight drawn sections, blended by x and y; character slows cutoff, x and y */
+    SENTIVOLUS_COMB2 = 9,                  /* a feedback comb with two taps, the second up to two octaves above by character */
+    SENTIVOLUS_EXPANDER_MULTIMODE = 10,    /* a four-pole ladder; character goes from low-pass by notch to high-pass */
+    SENTIVOLUS_EXPANDER_BAND_PASS = 11,    /* the four-pole ladder's band-pass */
+    SENTIVOLUS_K35 = 12                    /* Sallen-Key with a saturating feedback; character goes from low-pass to high-pass */
+} sentivolus_code;
+
+/* What a point of a pole-zero design does. A number above 7 acts as a Bypass. */
+typedef enum sentivolus_kind {
+    SENTIVOLUS_HIGH_PASS = 0,
+    SENTIVOLUS_LOW_PASS = 1,
+    SENTIVOLUS_BYPASS = 2,
+    SENTIVOLUS_ALL_PASS = 3,
+    SENTIVOLUS_BAND_PASS = 4,
+    SENTIVOLUS_NOTCH = 5,
+    SENTIVOLUS_BELL = 6,
+    SENTIVOLUS_FREE = 7
+} sentivolus_kind;
+
+/* What a call answers: 0, or the refusal whose condition was met first. Checks run in this order, each call making those whose values it
+ * takes. */
+typedef enum sentivolus_refusal {
+    SENTIVOLUS_ACCEPTED = 0,
+    SENTIVOLUS_REFUSED_RATE = 1,      /* rate NaN, below 8,000 or above 384,000 */
+    SENTIVOLUS_REFUSED_TUNING = 2,    /* reference NaN, below 1 or above 20,000 */
+    SENTIVOLUS_REFUSED_POLYPHONY = 3, /* voices not 1 to 16 */
+    SENTIVOLUS_REFUSED_LAYOUT = 4,    /* channels not 1 or 2 */
+    SENTIVOLUS_REFUSED_STRUCTURE = 5, /* code not 1 to 12 */
+    SENTIVOLUS_REFUSED_STORE = 6,     /* targets, records or delay not exactly as long as the setup asks */
+    SENTIVOLUS_REFUSED_VOICE = 7,     /* voice number not below voices */
+    SENTIVOLUS_REFUSED_KNOB = 8,      /* NaN resonance, drive, saturation, character or mix */
+    SENTIVOLUS_REFUSED_FRAMES = 9,    /* frames 0 or above 4,096 */
+    SENTIVOLUS_REFUSED_BUFFER = 10,   /* pitch, x, y or audio not exactly as long as the frames ask */
+    SENTIVOLUS_REFUSED_POINT = 11     /* point number above 7 */
+} sentivolus_refusal;
+
+/* The trade's word for a refusal's number. */
+static inline const char *sentivolus_refusal_word(uint32_t number)
+{
+    static const char *const words[] = {"accepted", "rate", "tuning", "polyphony", "layout", "structure",
+                                        "store", "voice", "knob", "frames", "buffer", "point"};
+    return number < sizeof words / sizeof words[0] ? words[number] : "unknown";
+}
+
+/* ---- 2. Structs ---- */
+
+/* A pole-zero design in the form that the filter runs, made by sentivolus_design_table. */
+typedef struct sentivolus_pole_zero_table {
+    uint32_t active; /* sections that run, 0 to 8; a larger number acts as 8 */
+    float gain;      /* linear, after the sections */
+    float sections[SENTIVOLUS_SECTIONS];
+} sentivolus_pole_zero_table;
+
+/* What a bank is opened with; every later call is handed it again. Make it by sentivolus_new_setup: later versions add fields. */
+typedef struct sentivolus_setup {
+    uint32_t code;   /* a sentivolus_code */
+    float rate;      /* samples a second, 8,000 to 384,000 */
+    float reference; /* hertz of pitch 69, 1 to 20,000 */
+    size_t voices;   /* 1 to 16 */
+    size_t channels; /* 1, or 2: left and right */
+    bool clean;      /* clean drive: the clipper's input 24 dB lower and its output 24 dB higher */
+    sentivolus_pole_zero_table table; /* read by SENTIVOLUS_POLE_ZERO alone */
+} sentivolus_setup;
+
+/* The lists that the caller lends, and the cursor of the rings, any number. Their lengths: sentivolus_targets_len and its like. */
+typedef struct sentivolus_bank {
+    float *targets;
+    size_t targets_len;
+    float *records;
+    size_t records_len;
+    float *delay;
+    size_t delay_len;
+    size_t cursor;
+} sentivolus_bank;
+
+/* One voice's settings. A bank glides to new ones over a few milliseconds. Defaults: sentivolus_default_params. */
+typedef struct sentivolus_params {
+    float resonance;     /* held to 0 .. 1; default 0.1 */
+    float drive;         /* held to 0 .. 1: gain of 0 to 24 dB into a soft clipper before the filter; default 0 */
+    float saturation;    /* of the resonance path, held to 0 .. 1; default 0 */
+    float character;     /* held to 0 .. 1; what it does is the structure's; default 0 */
+    float stereo_offset; /* semitones: the right channel's cutoff rises by it, the left's falls; NaN or infinite acts as 0; default 0 */
+    float mix;           /* held to 0 .. 1: 0 the input, 1 the filtered; default 1 */
+    float level;         /* linear gain after the mix, held to 0 and above; NaN or infinite acts as 0; default 1 */
+    float morph_x;       /* of SENTIVOLUS_POLE_ZERO, held to 0 .. 1, NaN acts as 0; default 0 */
+    float morph_y;       /* likewise */
+} sentivolus_params;
+
+/* A block's input beside its audio. Where `steered` is set, x and y are added to the smoothed morph_x and morph_y and the sums held to 0 .. 1. */
+typedef struct sentivolus_input {
+    size_t frames;      /* 1 to 4,096 */
+    const float *pitch; /* the cutoff in semitones, 69 being the reference; the cutoff stays just below half the rate */
+    size_t pitch_len;   /* frames x voices */
+    bool steered;
+    const float *x;
+    size_t x_len;       /* frames x voices, or 0 in an unsteered block */
+    const float *y;
+    size_t y_len;       /* the same */
+} sentivolus_input;
+
+/* One point of a design: a second-order section. NaN takes the default. */
+typedef struct sentivolus_design_point {
+    uint32_t kind;   /* a sentivolus_kind; default Bypass */
+    float frequency; /* hertz at cutoff pitch 68.4, held to 8 .. 22,050; default 1,000 */
+    float q;         /* held to 0.1 .. 40; default 0.7071 */
+    float a;         /* Bell: its gain in dB, held to -18 .. 18, default 0. Free: its zero's frequency, as frequency */
+    float b;         /* Free: its zero's Q, as q */
+} sentivolus_design_point;
+
+/* A pole-zero design: four states at x, y = 0, 0; 1, 0; 0, 1; 1, 1, of eight points each, and the overall gain. */
+typedef struct sentivolus_design {
+    sentivolus_design_point points[SENTIVOLUS_STATES][SENTIVOLUS_POINTS];
+    float gain_db; /* held to -24 .. 24; NaN acts as 0 */
+} sentivolus_design;
+
+/* ---- 3. The archive's symbols ----
+ *
+ * Each asks that MXCSR rounds to nearest, keeps subnormals and traps nothing: its default, 0x1F80, flags apart. Where it may be otherwise, call
+ * them between sentivolus_floats_enter and sentivolus_floats_leave. `sections` has 160 numbers. */
+
+uint32_t sentivolus_version(void);
+
 /* Every voice set to the defaults and started; the cursor is 0 afterwards. */
 uint32_t sentivolus_open(uint32_t code, float rate, float reference, size_t voices, size_t channels, bool clean,
-                         uint32_t active, const float sections[160], float gain,
+                         uint32_t active, const float sections[], float gain,
                          float *targets, size_t targets_len, float *records, size_t records_len, float *delay, size_t delay_len);
 
 /* Writes one voice's targets. The cursor stays. */
 uint32_t sentivolus_set(uint32_t code, float rate, float reference, size_t voices, size_t channels, bool clean,
-                        uint32_t active, const float sections[160], float gain,
+                        uint32_t active, const float sections[], float gain,
                         float *targets, size_t targets_len, size_t voice,
                         float resonance, float drive, float saturation, float character, float stereo_offset, float mix,
                         float level, float morph_x, float morph_y);
 
 /* Copies a voice's targets to its smoothed numbers on every channel and zeroes its states and rings. The cursor stays. */
 uint32_t sentivolus_start(uint32_t code, float rate, float reference, size_t voices, size_t channels, bool clean,
-                          uint32_t active, const float sections[160], float gain,
+                          uint32_t active, const float sections[], float gain,
                           const float *targets, size_t targets_len, float *records, size_t records_len,
                           float *delay, size_t delay_len, size_t voice);
 
-/* Renders a block. *cursor is the cursor, and the new one afterwards; *rendered becomes the frames rendered. */
+/* Renders a block in place. *cursor is the cursor, and the new one afterwards; *rendered becomes the frames rendered. */
 uint32_t sentivolus_block(uint32_t code, float rate, float reference, size_t voices, size_t channels, bool clean,
-                          uint32_t active, const float sections[160], float gain, size_t *cursor,
+                          uint32_t active, const float sections[], float gain, size_t *cursor,
                           const float *targets, size_t targets_len, float *records, size_t records_len,
                           float *delay, size_t delay_len, size_t frames, const float *pitch, size_t pitch_len, bool steered,
                           const float *x, size_t x_len, const float *y, size_t y_len, float *audio, size_t audio_len,
                           size_t *rendered);
 
-/* A design as 32 kind numbers (0 HighPass, 1 LowPass, 2 Bypass, 3 AllPass, 4 BandPass, 5 Notch, 6 Bell, 7 Free; any other is a
- * Bypass) and 128 floats: frequency, Q, a, b of each point, state by state. a is a Bell's gain in dB, or a Free's zero's
- * frequency, and b its zero's Q. */
+/* The nine default settings, in the order of sentivolus_params. */
+void sentivolus_defaults(float out[9]);
+
+/* The ten targets of nine settings. */
+void sentivolus_targets_of(float resonance, float drive, float saturation, float character, float stereo_offset, float mix,
+                           float level, float morph_x, float morph_y, float out[10]);
+
+/* A design as 32 kinds and 128 numbers (frequency, q, a, b of each point), state by state. Answers the table's active sections and writes its
+ * 160 numbers and its gain. It refuses nothing. */
 uint32_t sentivolus_table(const uint32_t kinds[32], const float numbers[128], float gain_db, float sections[160], float *gain);
+
+/* A design's point blended at x and y, each held to 0 .. 1: octaves, damping, high, band, low. Answers 0, or 11 for a point above 7. A NaN x or
+ * y gives NaN. */
 uint32_t sentivolus_section(const uint32_t kinds[32], const float numbers[128], float gain_db, size_t point, float x, float y, float out[5]);
+
+/* One point by itself: octaves, damping, high, band, low. */
 void sentivolus_point(uint32_t kind, float frequency, float q, float a, float b, float out[5]);
 
+/* A slot's ring at a rate: 1,024 to 65,536 cells, a power of two; 0 for a refused rate. */
 size_t sentivolus_ring_len(float rate);
+
+/* The cutoff of a pitch in cycles a sample, capped just below 1/2, and the integrator's gain tan(pi x that). reference_over_rate is the
+ * setup's reference / rate. */
+float sentivolus_ratio_of(float pitch, float reference_over_rate);
+float sentivolus_gain(float pitch, float reference_over_rate);
+
+/* A read of a slot's ring, `delay` samples back from the cursor, held to 2 .. len - 3: 0 where len is no power of two from 1,024 to 65,536 or the
+ * slot ends past the list. */
+float sentivolus_read(const float *buf, size_t buf_len, size_t len, size_t cursor, size_t slot, float delay);
+
+/* One state-variable stage with gain g and damping k: band, low, and the states ic1 and ic2 after it. */
+void sentivolus_svf(float ic1, float ic2, float x, float g, float k, float out[4]);
+
+/* The float functions that the filters are made of, for comparison by running. t is the table that sentivolus_openings writes. */
 float sentivolus_max(float a, float b);
 float sentivolus_min(float a, float b);
 float sentivolus_exp2(float v);
@@ -74,12 +263,200 @@ float sentivolus_log2(float q);
 float sentivolus_saturation_gain(float x, float inv_a, const uint8_t t[1024]);
 float sentivolus_asym(float x);
 float sentivolus_hermite(float newer, float p0, float p1, float older, float t);
-float sentivolus_read(const float *buf, size_t buf_len, size_t len, size_t cursor, size_t slot, float delay);
-float sentivolus_ratio_of(float pitch, float reference);
-float sentivolus_gain(float pitch, float reference);
-void sentivolus_svf(float ic1, float ic2, float x, float g, float k, float out[4]);
-void sentivolus_targets_of(float resonance, float drive, float saturation, float character, float stereo_offset, float mix,
-                           float level, float morph_x, float morph_y, float out[10]);
+
+/* ---- 4. The calls ---- */
+
+/* MXCSR without its six flags, at its default. */
+#define SENTIVOLUS_MXCSR 0x1F80u
+#define SENTIVOLUS_MXCSR_FLAGS 0x3Fu
+
+/* Puts MXCSR at its default where it is not, and answers what it was, for sentivolus_floats_leave. */
+static inline unsigned sentivolus_floats_enter(void)
+{
+    unsigned before = _mm_getcsr();
+    if ((before & ~SENTIVOLUS_MXCSR_FLAGS) != SENTIVOLUS_MXCSR)
+        _mm_setcsr(SENTIVOLUS_MXCSR);
+    return before;
+}
+
+/* Gives back the MXCSR that sentivolus_floats_enter answered. */
+static inline void sentivolus_floats_leave(unsigned before)
+{
+    if ((before & ~SENTIVOLUS_MXCSR_FLAGS) != SENTIVOLUS_MXCSR)
+        _mm_setcsr(before);
+}
+
+/* A setup with reference 440, no clean drive and a pole-zero table that passes its input. */
+static inline sentivolus_setup sentivolus_new_setup(uint32_t code, float rate, size_t voices, size_t channels)
+{
+    sentivolus_setup s;
+    s.code = code;
+    s.rate = rate;
+    s.reference = 440.0f;
+    s.voices = voices;
+    s.channels = channels;
+    s.clean = false;
+    s.table.active = 0;
+    s.table.gain = 1.0f;
+    for (size_t i = 0; i < SENTIVOLUS_SECTIONS; i++)
+        s.table.sections[i] = 0.0f;
+    return s;
+}
+
+/* The archive's default settings. */
+static inline sentivolus_params sentivolus_default_params(void)
+{
+    float n[SENTIVOLUS_PARAMS];
+    sentivolus_params p;
+    unsigned before = sentivolus_floats_enter();
+    sentivolus_defaults(n);
+    sentivolus_floats_leave(before);
+    p.resonance = n[0];
+    p.drive = n[1];
+    p.saturation = n[2];
+    p.character = n[3];
+    p.stereo_offset = n[4];
+    p.mix = n[5];
+    p.level = n[6];
+    p.morph_x = n[7];
+    p.morph_y = n[8];
+    return p;
+}
+
+/* A setup and a bank's lists as the archive's symbols take them. */
+#define SENTIVOLUS_SETUP_OF(s) \
+    (s)->code, (s)->rate, (s)->reference, (s)->voices, (s)->channels, (s)->clean, (s)->table.active, (s)->table.sections, (s)->table.gain
+#define SENTIVOLUS_LISTS_OF(b) (b)->targets, (b)->targets_len, (b)->records, (b)->records_len, (b)->delay, (b)->delay_len
+
+/* 0 for a setup that can be opened, or 1 to 5. */
+static inline sentivolus_refusal sentivolus_setup_check(const sentivolus_setup *s)
+{
+    float none = 0.0f;
+    unsigned before = sentivolus_floats_enter();
+    /* of empty lists `store` is the answer once the setup is right */
+    uint32_t answer = sentivolus_open(SENTIVOLUS_SETUP_OF(s), &none, 0, &none, 0, &none, 0);
+    sentivolus_floats_leave(before);
+    return answer == SENTIVOLUS_REFUSED_STORE ? SENTIVOLUS_ACCEPTED : (sentivolus_refusal)answer;
+}
+
+/* The lengths that a setup asks for, in elements; 0 for a setup that is refused. */
+static inline size_t sentivolus_targets_len(const sentivolus_setup *s)
+{
+    return sentivolus_setup_check(s) ? 0 : SENTIVOLUS_TARGETS * s->voices;
+}
+
+static inline size_t sentivolus_records_len(const sentivolus_setup *s)
+{
+    return sentivolus_setup_check(s) ? 0 : SENTIVOLUS_RECORD * s->voices * s->channels;
+}
+
+static inline size_t sentivolus_delay_len(const sentivolus_setup *s)
+{
+    unsigned before = sentivolus_floats_enter();
+    size_t ring = sentivolus_ring_len(s->rate);
+    sentivolus_floats_leave(before);
+    return sentivolus_setup_check(s) ? 0 : ring * s->voices * s->channels;
+}
+
+/* Opens a bank on the lent lists: every voice at the defaults and started, cursor 0. Refusals 1 to 6. */
+static inline sentivolus_refusal sentivolus_bank_open(const sentivolus_setup *s, sentivolus_bank *b)
+{
+    unsigned before = sentivolus_floats_enter();
+    uint32_t answer = sentivolus_open(SENTIVOLUS_SETUP_OF(s), SENTIVOLUS_LISTS_OF(b));
+    sentivolus_floats_leave(before);
+    if (answer == SENTIVOLUS_ACCEPTED)
+        b->cursor = 0;
+    return (sentivolus_refusal)answer;
+}
+
+/* Sets one voice: its filter glides there. Writes targets alone. Refusals 1 to 8; 6 measures targets alone. */
+static inline sentivolus_refusal sentivolus_bank_set(const sentivolus_setup *s, sentivolus_bank *b, size_t voice, const sentivolus_params *p)
+{
+    unsigned before = sentivolus_floats_enter();
+    uint32_t answer = sentivolus_set(SENTIVOLUS_SETUP_OF(s), b->targets, b->targets_len, voice,
+                                     p->resonance, p->drive, p->saturation, p->character, p->stereo_offset, p->mix,
+                                     p->level, p->morph_x, p->morph_y);
+    sentivolus_floats_leave(before);
+    return (sentivolus_refusal)answer;
+}
+
+/* Starts one voice: its settings without a glide, its states and rings silent. Refusals 1 to 7. */
+static inline sentivolus_refusal sentivolus_bank_start(const sentivolus_setup *s, sentivolus_bank *b, size_t voice)
+{
+    unsigned before = sentivolus_floats_enter();
+    uint32_t answer = sentivolus_start(SENTIVOLUS_SETUP_OF(s), SENTIVOLUS_LISTS_OF(b), voice);
+    sentivolus_floats_leave(before);
+    return (sentivolus_refusal)answer;
+}
+
+/* Filters a block of audio in place, frames x channels x voices samples, and moves the bank's cursor. Refusals 1 to 6, 9 and 10. An accepted
+ * block renders all its frames. */
+static inline sentivolus_refusal sentivolus_bank_block(const sentivolus_setup *s, sentivolus_bank *b, const sentivolus_input *in,
+                                                       float *audio, size_t audio_len)
+{
+    size_t cursor = b->cursor, rendered = 0;
+    unsigned before = sentivolus_floats_enter();
+    uint32_t answer = sentivolus_block(SENTIVOLUS_SETUP_OF(s), &cursor, SENTIVOLUS_LISTS_OF(b), in->frames, in->pitch, in->pitch_len,
+                                       in->steered, in->x, in->x_len, in->y, in->y_len, audio, audio_len, &rendered);
+    sentivolus_floats_leave(before);
+    b->cursor = cursor;
+    return (sentivolus_refusal)answer;
+}
+
+/* A design of 32 Bypass points at 1,000 Hz and gain 0 dB. */
+static inline sentivolus_design sentivolus_new_design(void)
+{
+    sentivolus_design d;
+    sentivolus_design_point bypass = {SENTIVOLUS_BYPASS, 1000.0f, 0.70710678f, 0.0f, 0.0f};
+    for (size_t i = 0; i < SENTIVOLUS_STATES; i++)
+        for (size_t j = 0; j < SENTIVOLUS_POINTS; j++)
+            d.points[i][j] = bypass;
+    d.gain_db = 0.0f;
+    return d;
+}
+
+/* A design's points as the archive takes them. */
+static inline void sentivolus_design_numbers(const sentivolus_design *d, uint32_t kinds[32], float numbers[128])
+{
+    for (size_t i = 0; i < SENTIVOLUS_STATES; i++)
+        for (size_t j = 0; j < SENTIVOLUS_POINTS; j++) {
+            const sentivolus_design_point *p = &d->points[i][j];
+            size_t at = SENTIVOLUS_POINTS * i + j;
+            kinds[at] = p->kind;
+            numbers[4 * at] = p->frequency;
+            numbers[4 * at + 1] = p->q;
+            numbers[4 * at + 2] = p->a;
+            numbers[4 * at + 3] = p->b;
+        }
+}
+
+/* The table of a design. Points that are Bypass in all four states are left out. */
+static inline sentivolus_pole_zero_table sentivolus_design_table(const sentivolus_design *d)
+{
+    uint32_t kinds[32];
+    float numbers[128];
+    sentivolus_pole_zero_table t;
+    sentivolus_design_numbers(d, kinds, numbers);
+    unsigned before = sentivolus_floats_enter();
+    t.active = sentivolus_table(kinds, numbers, d->gain_db, t.sections, &t.gain);
+    sentivolus_floats_leave(before);
+    return t;
+}
+
+/* A point of a design at x and y, each held to 0 .. 1: out becomes octaves, damping, high, band, low. Refusal 11. */
+static inline sentivolus_refusal sentivolus_design_section(const sentivolus_design *d, size_t point, float x, float y, float out[5])
+{
+    uint32_t kinds[32];
+    float numbers[128];
+    sentivolus_design_numbers(d, kinds, numbers);
+    unsigned before = sentivolus_floats_enter();
+    uint32_t answer = sentivolus_section(kinds, numbers, d->gain_db, point, x, y, out);
+    sentivolus_floats_leave(before);
+    return (sentivolus_refusal)answer;
+}
+
+#undef SENTIVOLUS_SETUP_OF
+#undef SENTIVOLUS_LISTS_OF
 
 #ifdef __cplusplus
 }

@@ -1,7 +1,15 @@
 #!/usr/bin/env bash
-# replay.sh run|leaf: reads a scenario or leaves file on standard input and writes it again with every answer recomputed by the
-# proved library. Builds what it needs; messages go to standard error.
+# replay.sh: scenario and leaves files through the proved library. Builds what it needs; messages go to standard error.
 set -eu
-here=$(cd "$(dirname "$0")" && pwd)
+. "$(dirname "$0")/common.sh"
+usage="usage: replay.sh run | leaf | check run FILE | check leaf FILE
+  run, leaf  reads a scenario or leaves file on standard input and writes it again with every answer recomputed
+  check      says whether a file's answers are those that the library gives, or where they differ first
+Exit status: 0, 1 where an answer differs, 2 where the command line or a line of the file cannot be read. docs/FORMATS.md describes the files."
+case $#:$* in
+    1:--help) echo "$usage" && exit 0 ;;
+    1:run | 1:leaf | 3:check\ run\ * | 3:check\ leaf\ *) ;;
+    *) wrong "$usage" ;;
+esac
 "$here/build.sh" >&2
 exec "$here/target/release/compare" "$@"

@@ -1,10 +1,28 @@
 #!/usr/bin/env bash
-# scale.sh [VOICE-SAMPLES [ORACLE-FOLDER]]: random scenarios from fresh seeds, the proved library beside the published Rust.
-# ORACLE-FOLDER holds assemble.py (default: ../shared/oracle beside the repository).
+# scale.sh: random scenarios and leaves from fresh seeds, the proved library beside the published Rust. `scale.sh --help` lists the options.
 set -eu
-here=$(cd "$(dirname "$0")" && pwd)
-samples=${1:-10000000}
-oracle=${2:-$here/../../shared/oracle}
-"$here/build.sh"
+. "$(dirname "$0")/common.sh"
+usage="usage: scale.sh [--seed N] [--samples N] [--oracle FOLDER] [--help]
+  --seed N         the first seed (from the clock where it is not given)
+  --samples N      voice-samples to compare (10000000)
+  --oracle FOLDER  the folder that holds assemble.py (../shared/oracle beside the repository)"
+options=()
+while [ $# -gt 0 ]; do
+    case $1 in
+        --help) echo "$usage" && exit 0 ;;
+        --seed | --samples)
+            case ${2-} in '' | *[!0-9]*) misused "$1 takes a whole number" ;; esac
+            options+=("$1" "$2")
+            ;;
+        --oracle)
+            [ -n "${2-}" ] || misused "--oracle takes a folder"
+            oracle=$2
+            ;;
+        *) misused "$1 is no option" ;;
+    esac
+    shift 2
+done
+need_oracle "$oracle"
+"$here/build.sh" >&2
 "$here/oracle.sh" "$oracle"
-exec "$here/target/release/compare" scale "$here/target/oracle/std/target/release/oracle-std" "$samples"
+exec "$here/target/release/compare" scale "$here/target/oracle/std/target/release/oracle-std" "${options[@]}"

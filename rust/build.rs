@@ -1,11 +1,22 @@
-// Links the archive that `rt staticlib sentivolus` writes; SENTIVOLUS_LIB names another folder that holds it.
+// Links the archive that `rt staticlib sentivolus` writes. SENTIVOLUS_LIB names another folder that holds it; a relative one counts from the
+// folder that cargo was called in, or from this package where that is not known.
 use std::path::PathBuf;
 
 fn main() {
-    let here = PathBuf::from(std::env::var("CARGO_MANIFEST_DIR").unwrap());
-    let folder = std::env::var("SENTIVOLUS_LIB").map(PathBuf::from).unwrap_or(here.join("../target/staticlib"));
+    let package = PathBuf::from(std::env::var("CARGO_MANIFEST_DIR").expect("cargo sets CARGO_MANIFEST_DIR"));
+    let called_in = std::env::var("PWD").map(PathBuf::from).unwrap_or(package.clone());
+    let folder = match std::env::var("SENTIVOLUS_LIB") {
+        Ok(named) => [&called_in, &package].map(|from| from.join(&named)).into_iter().find(|f| f.is_dir()).unwrap_or(called_in.join(named)),
+        Err(_) => package.join("../target/staticlib"),
+    };
+    let archive = folder.join("libsentivolus.a");
+    println!("cargo:rerun-if-env-changed=SENTIVOLUS_LIB");
+    println!("cargo:rerun-if-changed={}", archive.display());
+    if !archive.is_file() {
+        eprintln!("sentivolus: there is no archive {}", archive.display());
+        eprintln!("sentivolus: make it by `rt staticlib sentivolus` in the repository's root, or name its folder in SENTIVOLUS_LIB");
+        std::process::exit(1);
+    }
     println!("cargo:rustc-link-search=native={}", folder.display());
     println!("cargo:rustc-link-lib=static=sentivolus");
-    println!("cargo:rerun-if-changed={}", folder.join("libsentivolus.a").display());
-    println!("cargo:rerun-if-env-changed=SENTIVOLUS_LIB");
 }

@@ -57,7 +57,8 @@ fn parts(millis: u128) {
         let moving = measure(&case(code, 48000.0, 16, 2, 64, true), millis).0;
         let roots = saturation * [1.0, 0.0, 0.0, 5.0, 1.0, 1.0, 5.0, 0.0, 0.0, 1.0, 1.0, 2.0][code as usize - 1];
         let ring = if code == 9 { 2.0 * read } else { 0.0 };
-        println!("| {code} {:?} | {held:.1} | {base:.1} | {roots:.1} | {ring:.1} | {:.1} | {:.1} |", KINDS[code as usize - 1], held - base - roots - ring, moving - held);
+        let (kind, rest) = (KINDS[code as usize - 1], held - base - roots - ring);
+        println!("| {code} {kind:?} | {held:.1} | {base:.1} | {roots:.1} | {ring:.1} | {rest:.1} | {:.1} |", moving - held);
     }
     println!();
 }
@@ -100,39 +101,75 @@ fn case(code: u32, rate: f32, voices: usize, channels: usize, frames: usize, mov
     Case { engine: e, frames, pitch, audio }
 }
 
-/// Best of several runs, the two taking turns.
-fn measure(c: &Case, millis: u128) -> (f64, f64) {
-    let s = c.engine.setup;
-    let (v, n) = (s.voices as usize, s.channels as usize);
-    let per = c.frames * v * n;
+/// A block of the proved library's.
+fn block(e: &mut Engine, sections: &[f32], pitch: &[f32], audio: &mut [f32], frames: usize) {
+    let s = e.setup;
+    let mut done = 0usize;
+    let none = std::ptr::NonNull::dangling().as_ptr();
+    let refused = unsafe {
+        sentivolus_block(s.code, f(s.rate), f(s.reference), s.voices as usize, s.channels as usize, false,
+            e.table.active as u32, sections.as_ptr(), e.table.gain, &mut e.cursor, e.t.as_ptr(), e.t.len(),
+            e.r.as_mut_ptr(), e.r.len(), e.d.as_mut_ptr(), e.d.len(), frames, pitch.as_ptr(), pitch.len(),
+            false, none, 0, none, 0, audio.as_mut_ptr(), audio.len(), &mut done)
+    };
+    assert_eq!((refused, done), (0, frames));
+}
+
+fn sections_of(e: &Engine) -> Vec<f32> { e.table.sections.iter().flatten().flatten().copied().collect() }
+
+/// Best of several runs, the two taking turns. With `anew` each run starts from the case's state, which is put back outside of the time taken.
+fn measure_from(c: &Case, millis: u128, anew: bool) -> (f64, f64) {
+    let per = c.audio.len();
     let reps = (16_000 / per).max(1);
-    let mut rust = c.engine.clone();
-    let mut bank = rust.bank();
+    let sections = sections_of(&c.engine);
     let mut ours = c.engine.clone();
-    let sections: Vec<f32> = ours.table.sections.iter().flatten().flatten().copied().collect();
+    let mut bank = c.engine.clone().bank();
     let mut audio = c.audio.clone();
     let mut best = (f64::MAX, f64::MAX);
     let begun = Instant::now();
     while begun.elapsed().as_millis() < millis {
+        if anew { (ours, bank) = (c.engine.clone(), c.engine.clone().bank()); }
         let t = Instant::now();
         for _ in 0..reps { audio.copy_from_slice(&c.audio); extended::dispatch(&mut bank, None, &c.pitch, None, &mut audio, c.frames); }
         best.1 = best.1.min(t.elapsed().as_nanos() as f64 / (reps * per) as f64);
         let t = Instant::now();
-        for _ in 0..reps {
-            audio.copy_from_slice(&c.audio);
-            let mut done = 0usize;
-            let refused = unsafe {
-                sentivolus_block(s.code, f(s.rate), f(s.reference), v, n, false, ours.table.active as u32, sections.as_ptr(), ours.table.gain,
-                    &mut ours.cursor, ours.t.as_ptr(), ours.t.len(), ours.r.as_mut_ptr(), ours.r.len(), ours.d.as_mut_ptr(), ours.d.len(),
-                    c.frames, c.pitch.as_ptr(), c.pitch.len(), false, std::ptr::NonNull::dangling().as_ptr(), 0, std::ptr::NonNull::dangling().as_ptr(), 0,
-                    audio.as_mut_ptr(), audio.len(), &mut done)
-            };
-            assert_eq!((refused, done), (0, c.frames));
-        }
+        for _ in 0..reps { audio.copy_from_slice(&c.audio); block(&mut ours, &sections, &c.pitch, &mut audio, c.frames); }
         best.0 = best.0.min(t.elapsed().as_nanos() as f64 / (reps * per) as f64);
     }
     assert!(audio.iter().all(|x| x.is_finite()));
     best
+}
+
+fn measure(c: &Case, millis: u128) -> (f64, f64) { measure_from(c, millis, false) }
+
+/// The case after a second of its noise and five of zeros, and zeros to come. By then a block's cost stands still in every code, and is the same
+/// after ten: a tail does not reach zero but goes on in subnormal states.
+fn decayed(mut c: Case) -> Case {
+    let sections = sections_of(&c.engine);
+    let second = f(c.engine.setup.rate) as usize / c.frames;
+    let mut audio = c.audio.clone();
+    for k in 0..6 * second {
+        if k < second { audio.copy_from_slice(&c.audio); } else { audio.fill(0.0); }
+        block(&mut c.engine, &sections, &c.pitch, &mut audio, c.frames);
+    }
+    c.audio.fill(0.0);
+    c
+}
+
+fn silence(millis: u128) {
+    println!("Silence, 16 voices stereo, 64 frames a block, held pitch: ours, Rust (ratio)\n");
+    println!("| code | sounding | decayed tail | silence from a start | tail over sounding: ours, Rust |");
+    println!("|---|---|---|---|---|");
+    for code in 1..=12u32 {
+        let started = || case(code, 48000.0, 16, 2, 64, false);
+        let sounding = measure(&started(), millis);
+        let tail = measure_from(&decayed(started()), millis, true);
+        let mut silent = started();
+        silent.audio.fill(0.0);
+        let silent = measure_from(&silent, millis, true);
+        let cells: String = [sounding, tail, silent].iter().map(|(a, b)| format!(" {a:.1}, {b:.1} ({:.2}) |", a / b)).collect();
+        println!("| {code} {:?} |{cells} {:.1}, {:.1} |", KINDS[code as usize - 1], tail.0 / sounding.0, tail.1 / sounding.1);
+    }
 }
 
 /// Microseconds of open, 16 voices stereo, and of start, at a rate.
@@ -158,9 +195,7 @@ fn opening(rate: f32) -> (f64, f64) {
     best
 }
 
-pub fn main() {
-    let millis = std::env::var("MILLIS").ok().and_then(|m| m.parse().ok()).unwrap_or(300);
-    parts(millis);
+fn grid(millis: u128) {
     println!("| code | pitch | voices x channels / frames: ours, Rust (ratio) | | | |");
     println!("|---|---|---|---|---|---|");
     println!("| | | 1x1/64 | 1x1/4096 | 16x2/64 | 16x2/4096 |");
@@ -176,15 +211,30 @@ pub fn main() {
             println!("{row} |");
         }
     }
-    let (a, b) = roots();
-    println!("\nRoot in a dependent chain (with a product and a sum): {a:.1} ns, the machine's {b:.1} ns ({:.1} times)", a / b);
+}
+
+fn growth(millis: u128) {
     println!("\nGrowth, ours, code 9 (Comb2), held pitch, ns a voice-sample:");
-    for (what, v, n, frames, rate) in [("1 voice mono, 64 frames", 1, 1, 64, 48000.0), ("4 voices", 4, 1, 64, 48000.0), ("16 voices stereo", 16, 2, 64, 48000.0),
-        ("1 frame", 1, 1, 1, 48000.0), ("16 frames", 1, 1, 16, 48000.0), ("4,096 frames", 1, 1, 4096, 48000.0), ("rate 8,000", 1, 1, 64, 8000.0), ("rate 384,000", 1, 1, 64, 384000.0)] {
+    for (what, v, n, frames, rate) in [("1 voice mono, 64 frames", 1, 1, 64, 48000.0), ("4 voices", 4, 1, 64, 48000.0),
+        ("16 voices stereo", 16, 2, 64, 48000.0), ("1 frame", 1, 1, 1, 48000.0), ("16 frames", 1, 1, 16, 48000.0),
+        ("4,096 frames", 1, 1, 4096, 48000.0), ("rate 8,000", 1, 1, 64, 8000.0), ("rate 384,000", 1, 1, 64, 384000.0)] {
         println!("- {what}: {:.1}", measure(&case(9, rate, v, n, frames, false), millis).0);
     }
     for rate in [8000.0, 48000.0, 384000.0] {
         let (open, start) = opening(rate);
         println!("- rate {rate}: open (16 voices stereo) {open:.1} us, start of a voice {start:.1} us");
     }
+}
+
+/// Every table, or the one that is named.
+pub fn main() {
+    let millis = std::env::var("MILLIS").ok().and_then(|m| m.parse().ok()).unwrap_or(300);
+    if std::env::args().nth(2).as_deref() == Some("silence") { return silence(millis); }
+    parts(millis);
+    grid(millis);
+    let (a, b) = roots();
+    println!("\nRoot in a dependent chain (with a product and a sum): {a:.1} ns, the machine's {b:.1} ns ({:.1} times)", a / b);
+    growth(millis);
+    println!();
+    silence(millis);
 }

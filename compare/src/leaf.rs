@@ -1,86 +1,96 @@
-//! Leaves files: `name inputs = outputs`. The inputs are copied, the outputs recomputed.
+//! Leaves files: `name inputs = answer`. The inputs are copied, the answers recomputed.
 
-use crate::numbers::{answers, canonical, float, runs, whole};
+use crate::numbers::{answers, canonical, number, runs};
+use crate::replay::Replayed;
+use crate::words::{Lines, Words, Wrong};
 use sentivolus::{Design, VoiceParams};
 
-/// A point's kind, frequency, Q, and the one or two numbers of a Bell or a Free.
-fn take_point<'a>(words: &mut impl Iterator<Item = &'a str>) -> (u32, [f32; 4]) {
-    let mut next = || words.next().expect("a point is cut short");
-    let kind = whole(next()) as u32;
-    let (frequency, q) = (float(next()), float(next()));
-    let a = if kind >= 6 { float(next()) } else { 0.0 };
-    let b = if kind == 7 { float(next()) } else { 0.0 };
-    (kind, [frequency, q, a, b])
-}
+/// Reads a leaf's inputs and gives its answer.
+type Leaf = fn(&mut Words, &[u8; 1024]) -> Result<String, Wrong>;
 
-fn take_design<'a>(words: &mut impl Iterator<Item = &'a str>) -> Design {
-    let mut d = Design { kinds: [0; 32], numbers: [0.0; 128], gain_db: float(words.next().expect("a design's gain")) };
-    for i in 0..32 {
-        let (kind, numbers) = take_point(words);
-        d.kinds[i] = kind;
-        d.numbers[4 * i..4 * i + 4].copy_from_slice(&numbers);
-    }
-    d
-}
+const LEAVES: [(&str, Leaf); 19] = [
+    ("max", |w, _| w.floats().map(|[a, b]| text(&[sentivolus::max(a, b)]))),
+    ("min", |w, _| w.floats().map(|[a, b]| text(&[sentivolus::min(a, b)]))),
+    ("exp2", |w, _| w.float().map(|a| text(&[sentivolus::exp2(a)]))),
+    ("tan", |w, _| w.float().map(|a| text(&[sentivolus::tan(a)]))),
+    ("soft_clip", |w, _| w.float().map(|a| text(&[sentivolus::soft_clip(a)]))),
+    ("sqrt", |w, t| w.float().map(|a| text(&[sentivolus::root(a, t)]))),
+    ("log2", |w, _| w.float().map(|a| text(&[sentivolus::log2(a)]))),
+    ("asym", |w, _| w.float().map(|a| text(&[sentivolus::asym(a)]))),
+    ("saturation_gain", |w, t| w.floats().map(|[a, b]| text(&[sentivolus::saturation_gain(a, b, t)]))),
+    ("hermite", |w, _| w.floats().map(|[a, b, c, d, e]| text(&[sentivolus::hermite(a, b, c, d, e)]))),
+    ("ring_len", |w, _| w.float().map(|a| format!(" {}", sentivolus::ring_len(a)))),
+    ("ratio_of", |w, _| w.floats().map(|[a, b]| text(&[sentivolus::ratio_of(a, b)]))),
+    ("gain", |w, _| w.floats().map(|[a, b]| text(&[sentivolus::gain(a, b)]))),
+    ("svf", |w, _| w.floats().map(|[a, b, c, d, e]| text(&sentivolus::svf(a, b, c, d, e)))),
+    ("targets_of", |w, _| w.floats().map(|p| text(&sentivolus::targets_of(&VoiceParams::from_array(p))))),
+    ("point", |w, _| point(w).map(|(kind, [frequency, q, a, b])| text(&sentivolus::point(kind, frequency, q, a, b)))),
+    ("table", |w, _| design(w).map(|d| table(&d))),
+    ("section", |w, _| section(w)),
+    ("read", |w, _| read(w)),
+];
+
+pub fn names() -> impl Iterator<Item = &'static str> { LEAVES.iter().map(|(name, _)| *name) }
 
 fn text(values: &[f32]) -> String { answers(values).iter().map(|b| format!(" {b:08x}")).collect() }
 
-fn answer(inputs: &str, openings: &[u8; 1024]) -> String {
-    let mut words = inputs.split(' ');
-    let name = words.next().unwrap_or("");
-    match name {
-        "point" => {
-            let (kind, n) = take_point(&mut words);
-            return text(&sentivolus::point(kind, n[0], n[1], n[2], n[3]));
-        }
-        "table" => {
-            let t = sentivolus::table(&take_design(&mut words));
-            return format!(" {} {:08x}{}", t.active, canonical(t.gain), runs(&answers(&t.sections)));
-        }
-        "section" => {
-            let mut next = || words.next().expect("a section is cut short");
-            let (point, x, y) = (whole(next()) as usize, float(next()), float(next()));
-            return match sentivolus::section(&take_design(&mut words), point, x, y) {
-                Ok(v) => text(&v),
-                Err(r) => format!(" refused {}", r.0),
-            };
-        }
-        "read" => {
-            let w: Vec<&str> = words.collect();
-            let n = |i: usize| whole(w[i]) as usize;
-            let cells: Vec<f32> = (0..n(0)).map(|i| (37 * i % 1009) as f32).collect();
-            return text(&[sentivolus::read(&cells, n(1), n(2), n(3), float(w[4]))]);
-        }
-        _ => {}
-    }
-    let a: Vec<f32> = words.map(float).collect();
-    match name {
-        "max" => text(&[sentivolus::max(a[0], a[1])]),
-        "min" => text(&[sentivolus::min(a[0], a[1])]),
-        "exp2" => text(&[sentivolus::exp2(a[0])]),
-        "tan" => text(&[sentivolus::tan(a[0])]),
-        "soft_clip" => text(&[sentivolus::soft_clip(a[0])]),
-        "sqrt" => text(&[sentivolus::root(a[0], openings)]),
-        "log2" => text(&[sentivolus::log2(a[0])]),
-        "asym" => text(&[sentivolus::asym(a[0])]),
-        "saturation_gain" => text(&[sentivolus::saturation_gain(a[0], a[1], openings)]),
-        "hermite" => text(&[sentivolus::hermite(a[0], a[1], a[2], a[3], a[4])]),
-        "ring_len" => format!(" {}", sentivolus::ring_len(a[0])),
-        "ratio_of" => text(&[sentivolus::ratio_of(a[0], a[1])]),
-        "gain" => text(&[sentivolus::gain(a[0], a[1])]),
-        "svf" => text(&sentivolus::svf(a[0], a[1], a[2], a[3], a[4])),
-        "targets_of" => text(&sentivolus::targets_of(&VoiceParams::from_array(std::array::from_fn(|i| a[i])))),
-        _ => panic!("unknown leaf: {name}"),
-    }
+/// A point's kind, frequency, Q, and the one or two numbers of a Bell or a Free.
+fn point(w: &mut Words) -> Result<(u32, [f32; 4]), Wrong> {
+    let kind = w.at_most(7)? as u32;
+    let [frequency, q] = w.floats()?;
+    let a = if kind >= 6 { w.float()? } else { 0.0 };
+    let b = if kind == 7 { w.float()? } else { 0.0 };
+    Ok((kind, [frequency, q, a, b]))
 }
 
-pub fn replay(file: &str) -> String {
-    let openings = sentivolus::openings();
-    let mut out = String::with_capacity(file.len());
-    for line in file.lines() {
-        if line.starts_with('#') || line.is_empty() { out += line; out.push('\n'); continue; }
-        let inputs = line.split(" =").next().unwrap_or("");
-        out += &format!("{inputs} ={}\n", answer(inputs, &openings));
+fn design(w: &mut Words) -> Result<Design, Wrong> {
+    let mut d = Design { kinds: [0; 32], numbers: [0.0; 128], gain_db: w.float()? };
+    for (kind, numbers) in d.kinds.iter_mut().zip(d.numbers.chunks_exact_mut(4)) {
+        let (k, n) = point(w)?;
+        *kind = k;
+        numbers.copy_from_slice(&n);
     }
-    out
+    Ok(d)
+}
+
+fn table(d: &Design) -> String {
+    let t = sentivolus::table(d);
+    format!(" {} {:08x}{}", t.active, canonical(t.gain), runs(&answers(&t.sections)))
+}
+
+fn section(w: &mut Words) -> Result<String, Wrong> {
+    let (point, [x, y]) = (w.whole()?, w.floats()?);
+    Ok(match sentivolus::section(&design(w)?, point, x, y) {
+        Ok(v) => text(&v),
+        Err(r) => format!(" refused {}", number(r)),
+    })
+}
+
+/// Cell i of the list that is read holds 37 i mod 1009.
+fn read(w: &mut Words) -> Result<String, Wrong> {
+    let (cells, len, cursor, slot, delay) = (w.length()?, w.whole()?, w.whole()?, w.whole()?, w.float()?);
+    let cells: Vec<f32> = (0..cells).map(|i| (37 * i % 1009) as f32).collect();
+    Ok(text(&[sentivolus::read(&cells, len, cursor, slot, delay)]))
+}
+
+fn row(w: &mut Words, openings: &[u8; 1024]) -> Result<String, Wrong> {
+    let leaf = w.read("a leaf's name", |name| LEAVES.iter().find(|(n, _)| *n == name))?.1;
+    let answer = leaf(w, openings)?;
+    w.end_or_answer()?;
+    Ok(format!(" ={answer}\n"))
+}
+
+pub fn replay(text: &str) -> Result<Replayed, Wrong> {
+    let openings = sentivolus::openings();
+    let mut out = Replayed::default();
+    for mut w in Lines::of(text) {
+        if w.line.is_empty() || w.line.starts_with('#') {
+            out.copy(w.line);
+            continue;
+        }
+        let answer = row(&mut w, &openings)?;
+        out.text += w.line.split(" =").next().unwrap_or("");
+        out.answer(&answer);
+    }
+    Ok(out)
 }

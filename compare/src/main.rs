@@ -1,40 +1,91 @@
 //! Runs of the proved library beside the published Rust. `compare --help` lists the commands.
 
+mod check;
 mod leaf;
 mod numbers;
+mod oracle;
+mod replay;
 mod roots;
 mod scale;
 mod scenario;
+mod words;
 
+use std::ffi::OsString;
 use std::io::{Read, Write};
+use std::process::ExitCode;
 
 const HELP: &str = "\
-compare run               a scenario file from standard input, every answer recomputed by the proved library
-compare leaf              the same for a leaves file
-compare scale ORACLE N [SEED]
-                          random scenarios and leaves of the oracle's program from fresh seeds, until N voice-samples are compared
-compare roots             every f32 of the root against the machine's square root";
+usage: compare run | leaf | check run FILE | check leaf FILE | scale ORACLE [OPTION..] | roots
+  run    a scenario file from standard input, every answer recomputed by the proved library
+  leaf   the same for a leaves file
+  check  a scenario or leaves file against its answers recomputed
+  scale  random scenarios and leaves of the oracle's program, from fresh seeds; `compare scale --help` lists the options
+  roots  every f32 of the root against the machine's square root
+Exit status: 0, 1 where an answer differs, 2 where the command line or a line of the file cannot be read.";
 
-fn stdin_text() -> String {
-    let mut text = String::new();
-    std::io::stdin().read_to_string(&mut text).expect("standard input is text");
-    text
+/// How a command ends where it does not end well.
+pub enum Failure {
+    /// An answer differs, or nothing was compared. Exit status 1.
+    Differs(String),
+    /// The input cannot be read. Exit status 2.
+    Malformed(String),
+    /// The command line is wrong: what is wrong, and the usage. Exit status 2.
+    Usage(String, &'static str),
 }
 
-fn write_out(text: &str) {
-    std::io::stdout().write_all(text.as_bytes()).expect("standard output takes the answer");
+impl From<words::Wrong> for Failure {
+    fn from(w: words::Wrong) -> Self { Failure::Malformed(w.to_string()) }
 }
 
-fn main() {
-    let args: Vec<String> = std::env::args().skip(1).collect();
+fn replay_of(kind: &str) -> Option<replay::Replay> {
+    match kind {
+        "run" => Some(scenario::replay),
+        "leaf" => Some(leaf::replay),
+        _ => None,
+    }
+}
+
+/// Standard input replayed.
+fn replay_input(replay: replay::Replay) -> Result<String, Failure> {
+    let mut bytes = vec![];
+    std::io::stdin().read_to_end(&mut bytes).map_err(|e| Failure::Malformed(format!("standard input: {e}")))?;
+    Ok(replay(&words::text(bytes)?)?.text)
+}
+
+/// Runs a command; answers what is left to print.
+fn command(args: &[&str]) -> Result<String, Failure> {
+    match args {
+        ["--help"] => Ok(format!("{HELP}\n")),
+        ["scale", "--help"] => Ok(format!("{}\n", scale::HELP)),
+        ["scale", rest @ ..] => {
+            let options = scale::Options::of(rest).map_err(|e| Failure::Usage(e, scale::HELP))?;
+            scale::run(&options).map(|()| String::new()).map_err(Failure::Differs)
+        }
+        ["check", kind, path] => match replay_of(kind) {
+            Some(replay) => check::run(path, replay).map(|line| line + "\n"),
+            None => Err(Failure::Usage(format!("{kind} is neither run nor leaf"), HELP)),
+        },
+        ["roots"] => if roots::run() { Ok(String::new()) } else { Err(Failure::Differs("the root differs".into())) },
+        [kind] => match replay_of(kind) {
+            Some(replay) => replay_input(replay),
+            None => Err(Failure::Usage(format!("{kind} is no command"), HELP)),
+        },
+        _ => Err(Failure::Usage("the command line is none of these".into(), HELP)),
+    }
+}
+
+fn main() -> ExitCode {
+    let args: Vec<String> = std::env::args_os().skip(1).map(|a: OsString| a.to_string_lossy().into_owned()).collect();
     let words: Vec<&str> = args.iter().map(String::as_str).collect();
-    let fine = match words.as_slice() {
-        ["run"] => { write_out(&scenario::replay(&stdin_text())); true }
-        ["leaf"] => { write_out(&leaf::replay(&stdin_text())); true }
-        ["scale", oracle, samples] => scale::run(oracle, samples.parse().expect("a number of voice-samples"), None),
-        ["scale", oracle, samples, seed] => scale::run(oracle, samples.parse().expect("a number of voice-samples"), Some(seed.parse().expect("a seed"))),
-        ["roots"] => roots::run(),
-        _ => { println!("{HELP}"); words == ["--help"] }
+    let printed = command(&words).and_then(|text| {
+        std::io::stdout().write_all(text.as_bytes()).map_err(|e| Failure::Malformed(format!("standard output: {e}")))
+    });
+    let (message, status) = match printed {
+        Ok(()) => return ExitCode::SUCCESS,
+        Err(Failure::Differs(what)) => (what, 1),
+        Err(Failure::Malformed(what)) => (what, 2),
+        Err(Failure::Usage(what, usage)) => (format!("compare: {what}\n{usage}"), 2),
     };
-    if !fine { std::process::exit(1); }
+    eprintln!("{message}");
+    ExitCode::from(status)
 }

@@ -1,97 +1,135 @@
 //! Random scenarios at scale: the oracle's program writes them with the Rust's answers, the proved library recomputes them.
 
+use crate::oracle::Oracle;
+use crate::replay::difference;
+use crate::words::{decimal, Lines};
 use crate::{leaf, scenario};
-use std::io::Write;
-use std::process::{Command, Stdio};
 use std::time::{Instant, SystemTime, UNIX_EPOCH};
 
-fn oracle_text(oracle: &str, args: &[&str], input: Option<&str>) -> String {
-    let mut child = Command::new(oracle).args(args)
-        .stdin(if input.is_some() { Stdio::piped() } else { Stdio::null() }).stdout(Stdio::piped()).stderr(Stdio::null())
-        .spawn().unwrap_or_else(|e| panic!("the oracle's program {oracle}: {e}"));
-    if let (Some(text), Some(mut pipe)) = (input, child.stdin.take()) {
-        let text = text.to_owned();
-        std::thread::spawn(move || { let _ = pipe.write_all(text.as_bytes()); });
+pub const HELP: &str = "\
+usage: compare scale ORACLE [--seed N] [--samples N] [--scenarios N] [--rows N]
+random scenarios and leaves of the oracle's program ORACLE, which is asked for `gen SEED N` and `leafgen SEED N`, until enough is compared
+  --seed N       the first file's seed (from the clock where it is not given); the others follow from it
+  --samples N    voice-samples to compare (10000000)
+  --scenarios N  scenarios to ask for in a file (396); the last has to end with a dump
+  --rows N       rows that a leaves file has (5511)
+Exit status 1 where an answer differs, or the oracle fails or stops early.";
+
+pub struct Options {
+    oracle: Oracle,
+    seed: u64,
+    samples: u64,
+}
+
+impl Options {
+    pub fn of(args: &[&str]) -> Result<Options, String> {
+        let seed = SystemTime::now().duration_since(UNIX_EPOCH).map_or(1, |d| d.as_nanos() as u64 | 1);
+        let mut o = Options { oracle: Oracle { program: String::new(), scenarios: 396, rows: 5511 }, seed, samples: 10_000_000 };
+        let mut args = args.iter().copied();
+        while let Some(arg) = args.next() {
+            match arg {
+                "--seed" => o.seed = number(arg, args.next(), 0)?,
+                "--samples" => o.samples = number(arg, args.next(), 1)?,
+                "--scenarios" => o.oracle.scenarios = number(arg, args.next(), 1)?,
+                "--rows" => o.oracle.rows = number(arg, args.next(), 1)?,
+                _ if arg.starts_with('-') => return Err(format!("{arg} is no option")),
+                _ if !o.oracle.program.is_empty() => return Err(format!("{arg} is one word too many")),
+                _ => o.oracle.program = arg.to_owned(),
+            }
+        }
+        if o.oracle.program.is_empty() { Err("the oracle's program is missing".into()) } else { Ok(o) }
     }
-    let out = child.wait_with_output().expect("the oracle's output");
-    String::from_utf8(out.stdout).expect("the oracle writes text")
+}
+
+fn number<T: std::str::FromStr + std::fmt::Display + PartialOrd>(option: &str, word: Option<&str>, least: T) -> Result<T, String> {
+    word.and_then(decimal).filter(|n| *n >= least).ok_or_else(|| format!("{option} takes a whole number from {least} to 2^64 - 1"))
 }
 
 /// The scenarios of a file, each with its first line.
 fn scenarios(text: &str) -> Vec<String> {
     let mut out: Vec<String> = vec![];
-    for line in text.lines() {
-        if line.starts_with("scenario") { out.push(String::new()); }
-        if let Some(last) = out.last_mut() { *last += line; last.push('\n'); }
+    for w in Lines::of(text) {
+        if w.line.starts_with("scenario") { out.push(String::new()); }
+        if let Some(last) = out.last_mut() { *last += &format!("{}\n", w.line); }
     }
     out
 }
 
-/// Whether the two disagree on a scenario's calls, answers worked out anew by both.
-fn differs(oracle: &str, calls: &str) -> bool {
-    let theirs = oracle_text(oracle, &["run"], Some(calls));
-    !theirs.is_empty() && std::panic::catch_unwind(|| scenario::replay(&theirs)).map_or(true, |ours| ours != theirs)
-}
+/// Whether ours are other answers than these. A text that cannot be read has none.
+fn differs(theirs: &str) -> bool { scenario::replay(theirs).is_ok_and(|ours| ours.text != theirs) }
 
 /// The calls of a scenario as units: a block with its four lists is one.
 fn units(text: &str) -> Vec<String> {
     let mut out: Vec<String> = vec![];
-    for line in text.lines() {
-        let list_of_block = matches!(line.split(' ').next(), Some("p" | "x" | "y" | "a"));
-        if list_of_block { if let Some(u) = out.last_mut() { *u += &format!("{line}\n"); } }
-        else if !matches!(line.split(' ').next(), Some("=" | "o" | "h" | "t" | "r" | "d")) { out.push(format!("{line}\n")); }
+    for w in Lines::of(text).filter(|w| !scenario::is_answer(w.line)) {
+        let list_of_block = matches!(w.line.split(' ').next(), Some("p" | "x" | "y" | "a"));
+        if !list_of_block { out.push(String::new()); }
+        if let Some(unit) = out.last_mut() { *unit += &format!("{}\n", w.line); }
     }
     out
 }
 
-/// Drops calls while the difference stays.
-fn shrink(oracle: &str, text: &str) -> String {
+/// Drops calls while the answers, worked out anew by both, differ. Nothing where they do not differ then.
+fn shrink(oracle: &Oracle, text: &str) -> Option<String> {
+    let differing = |calls: &[String]| oracle.answered(&calls.concat()).filter(|theirs| differs(theirs));
     let mut kept = units(text);
+    let mut shrunk = differing(&kept)?;
     let mut width = kept.len() / 2;
     while width > 0 {
         let mut at = 2.min(kept.len());
         while at < kept.len() {
             let mut tried = kept.clone();
             tried.drain(at..(at + width).min(tried.len()));
-            if differs(oracle, &tried.concat()) { kept = tried; } else { at += width; }
+            match differing(&tried) {
+                Some(theirs) => (kept, shrunk) = (tried, theirs),
+                None => at += width,
+            }
         }
         width /= 2;
     }
-    oracle_text(oracle, &["run"], Some(&kept.concat()))
+    Some(shrunk)
 }
 
-fn report(oracle: &str, seed: u64, theirs: &str) {
-    for s in scenarios(theirs) {
-        if scenario::replay(&s) != s {
-            let small = shrink(oracle, &s);
-            println!("seed {seed}: the answers differ. The scenario, shrunk, with the Rust's answers:\n{small}and with ours:\n{}", scenario::replay(&small));
-            return;
-        }
+/// The first scenario that differs by itself, shrunk, with both's answers.
+fn smallest(oracle: &Oracle, theirs: &str) -> Option<String> {
+    let small = shrink(oracle, &scenarios(theirs).into_iter().find(|s| differs(s))?)?;
+    let ours = scenario::replay(&small).ok()?.text;
+    Some(format!("\nThe scenario, shrunk, with the Rust's answers:\n{small}and with ours:\n{ours}"))
+}
+
+/// The voice-samples of one file of scenarios.
+fn compare_scenarios(oracle: &Oracle, seed: u64) -> Result<u64, String> {
+    let theirs = oracle.scenarios(seed)?;
+    let ours = scenario::replay(&theirs).map_err(|e| format!("seed {seed}: the scenarios cannot be read: {e}"))?;
+    if let Some(d) = difference(&theirs, &ours.text) {
+        return Err(format!("seed {seed}: the scenarios differ at {d}{}", smallest(oracle, &theirs).unwrap_or_default()));
     }
-    println!("seed {seed}: the answers differ over the whole file, and in no scenario alone");
+    if ours.samples == 0 { return Err(format!("seed {seed}: the scenarios hold no voice-sample")); }
+    Ok(ours.samples)
 }
 
-/// True if no answer differs.
-pub fn run(oracle: &str, samples: u64, first_seed: Option<u64>) -> bool {
-    let mut seed = first_seed.unwrap_or_else(|| SystemTime::now().duration_since(UNIX_EPOCH).map_or(1, |d| d.as_nanos() as u64 | 1));
+/// The rows of one file of leaves.
+fn compare_leaves(oracle: &Oracle, seed: u64) -> Result<usize, String> {
+    let theirs = oracle.leaves(seed)?;
+    let ours = leaf::replay(&theirs).map_err(|e| format!("seed {seed}: the leaves cannot be read: {e}"))?;
+    match difference(&theirs, &ours.text) {
+        Some(d) => Err(format!("seed {seed}: the leaves differ at {d}")),
+        None => Ok(ours.answers),
+    }
+}
+
+pub fn run(o: &Options) -> Result<(), String> {
     let begun = Instant::now();
-    let (mut done, mut leaves, mut files) = (0u64, 0usize, 0u64);
-    println!("comparing with {oracle}, first seed {seed}");
-    while done < samples {
-        let theirs = oracle_text(oracle, &["gen", &seed.to_string(), "396"], None);
-        let (ours, n) = scenario::replay_counted(&theirs);
-        if ours != theirs { report(oracle, seed, &theirs); return false; }
-        done += n;
-        let rows = oracle_text(oracle, &["leafgen", &seed.to_string(), "240"], None);
-        for (a, b) in rows.lines().zip(leaf::replay(&rows).lines()) {
-            if a != b { println!("seed {seed}: a leaf differs\n{a}\nours: {b}"); return false; }
-            leaves += 1;
-        }
+    let (mut seed, mut done, mut leaves, mut files) = (o.seed, 0u64, 0usize, 0u64);
+    println!("comparing with {}, first seed {seed}", o.oracle.program);
+    while done < o.samples {
+        done += compare_scenarios(&o.oracle, seed)?;
+        leaves += compare_leaves(&o.oracle, seed)?;
         files += 1;
-        if files % 5 == 0 || done >= samples {
+        if files % 5 == 0 || done >= o.samples {
             println!("{files} files, {done} voice-samples, {leaves} leaves, {:.0} s: 0 differences", begun.elapsed().as_secs_f64());
         }
         seed = seed.wrapping_mul(6364136223846793005).wrapping_add(1442695040888963407) | 1;
     }
-    true
+    Ok(())
 }

@@ -1,128 +1,151 @@
 //! Scenario files: calls on a bank with their answers. The calls are copied, the answers recomputed.
 
-use crate::numbers::{answers, bits, float, floats, list, runs, whole};
+use crate::numbers::{answers, number, runs};
+use crate::replay::Replayed;
+use crate::words::{quoted, Lines, Words, Wrong};
 use sentivolus::{Refusal, Setup, Table, VoiceParams};
 
 /// The lent lists, the setup handed to the next call, and the cursor.
-pub struct Bank {
+struct Bank {
     setup: Setup,
     targets: Vec<f32>,
     records: Vec<f32>,
     delay: Vec<f32>,
     cursor: usize,
     lend: Option<[usize; 3]>,
-    /// Voice-samples of accepted blocks so far.
-    pub samples: u64,
+}
+
+/// The lists as a call is lent them: the bank's own, or copies at the lengths of a `lend` line.
+struct Lent {
+    targets: Vec<f32>,
+    records: Vec<f32>,
+    delay: Vec<f32>,
+    own: bool,
+}
+
+/// A block's first line; `digest` asks for sums instead of samples.
+struct Asked {
+    frames: usize,
+    steered: bool,
+    digest: bool,
 }
 
 impl Bank {
-    pub fn new() -> Self {
+    fn new() -> Self {
         let setup = Setup { code: 0, rate: 0.0, reference: 0.0, voices: 0, channels: 0, clean: false, table: Table::default() };
-        Bank { setup, targets: vec![], records: vec![], delay: vec![], cursor: 0, lend: None, samples: 0 }
+        Bank { setup, targets: vec![], records: vec![], delay: vec![], cursor: 0, lend: None }
     }
 
-    fn take_setup(&mut self, w: &[&str]) {
+    fn take_setup(&mut self, w: &mut Words) -> Result<(), Wrong> {
         self.setup = Setup {
-            code: whole(w[0]) as u32,
-            rate: float(w[1]),
-            reference: float(w[2]),
-            voices: whole(w[3]) as usize,
-            channels: whole(w[4]) as usize,
-            clean: whole(w[5]) != 0,
+            code: w.u32()?,
+            rate: w.float()?,
+            reference: w.float()?,
+            voices: w.whole()?,
+            channels: w.whole()?,
+            clean: w.mark()?,
             table: self.setup.table,
         };
+        Ok(())
     }
 
-    /// The lists as they are lent to this call: at their own lengths, or at those of a `lend` line.
     fn lent(&mut self) -> Lent {
-        match self.lend.take() {
-            None => Lent { t: std::mem::take(&mut self.targets), r: std::mem::take(&mut self.records), d: std::mem::take(&mut self.delay), own: true },
-            Some([t, r, d]) => {
-                let part = |l: &Vec<f32>, n: usize| { let mut v = l.clone(); v.resize(n, 0.0); v };
-                Lent { t: part(&self.targets, t), r: part(&self.records, r), d: part(&self.delay, d), own: false }
-            }
-        }
+        let own = self.lend.is_none();
+        let [t, r, d] = self.lend.take().unwrap_or([self.targets.len(), self.records.len(), self.delay.len()]);
+        let part = |list: &mut Vec<f32>, n: usize| {
+            if own { std::mem::take(list) } else { list.iter().copied().chain(std::iter::repeat(0.0)).take(n).collect() }
+        };
+        Lent { targets: part(&mut self.targets, t), records: part(&mut self.records, r), delay: part(&mut self.delay, d), own }
     }
 
     fn back(&mut self, l: Lent) {
-        if l.own {
-            (self.targets, self.records, self.delay) = (l.t, l.r, l.d);
-        } else if l.t.len() == self.targets.len() {
-            // set alone is accepted at other lengths of records and delay, and writes targets
-            self.targets = l.t;
+        for (list, lent) in [(&mut self.targets, l.targets), (&mut self.records, l.records), (&mut self.delay, l.delay)] {
+            if l.own { *list = lent; } else { list.iter_mut().zip(lent).for_each(|(x, y)| *x = y); }
         }
     }
 
-    fn open(&mut self, w: &[&str]) -> String {
-        self.take_setup(w);
-        let made = |word: &str| vec![0.5f32; whole(word) as usize];
-        (self.targets, self.records, self.delay) = (made(w[6]), made(w[7]), made(w[8]));
+    fn open(&mut self, w: &mut Words) -> Result<String, Wrong> {
+        self.take_setup(w)?;
+        let [t, r, d] = lengths(w)?;
+        w.end()?;
+        (self.targets, self.records, self.delay) = (vec![0.5; t], vec![0.5; r], vec![0.5; d]);
         (self.cursor, self.lend) = (0, None);
-        kept(sentivolus::open(&self.setup, &mut self.targets, &mut self.records, &mut self.delay))
+        Ok(kept(sentivolus::open(&self.setup, &mut self.targets, &mut self.records, &mut self.delay)))
     }
 
-    fn set(&mut self, w: &[&str]) -> String {
-        let voice = whole(w[0]) as usize;
-        let p = VoiceParams::from_array(std::array::from_fn(|i| float(w[1 + i])));
+    fn set(&mut self, w: &mut Words) -> Result<String, Wrong> {
+        let (voice, p) = (w.whole()?, VoiceParams::from_array(w.floats()?));
+        w.end()?;
         let mut l = self.lent();
-        let a = sentivolus::set(&self.setup, self.cursor, &mut l.t, voice, &p);
+        let a = sentivolus::set(&self.setup, self.cursor, &mut l.targets, voice, &p);
+        let written: Vec<f32> = l.targets.iter().skip(voice.saturating_mul(10)).take(10).copied().collect();
         self.back(l);
-        match a {
-            Ok(_) => format!("{}t{}\n", kept(a), runs(&answers(&self.targets[10 * voice..10 * voice + 10]))),
-            Err(_) => kept(a),
-        }
+        Ok(if a.is_ok() { format!("{}t{}\n", kept(a), runs(&answers(&written))) } else { kept(a) })
     }
 
-    fn start(&mut self, w: &[&str]) -> String {
+    fn start(&mut self, w: &mut Words) -> Result<String, Wrong> {
+        let voice = w.whole()?;
+        w.end()?;
         let mut l = self.lent();
-        let a = sentivolus::start(&self.setup, self.cursor, &l.t, &mut l.r, &mut l.d, whole(w[0]) as usize);
+        let a = sentivolus::start(&self.setup, self.cursor, &l.targets, &mut l.records, &mut l.delay, voice);
         self.back(l);
-        kept(a)
+        Ok(kept(a))
     }
 
-    fn block(&mut self, w: &[&str], digest: bool, lists: [Vec<u32>; 4]) -> String {
-        let (frames, steered) = (whole(w[0]) as usize, whole(w[1]) != 0);
-        let [p, x, y, a] = lists;
-        let mut audio = floats(&a);
+    /// The answer to a block, and how many voice-samples it rendered.
+    fn block(&mut self, asked: &Asked, [p, x, y, a]: &[Vec<f32>; 4]) -> (String, u64) {
+        let mut audio = a.clone();
         let mut l = self.lent();
-        let given = sentivolus::block_marked(&self.setup, self.cursor, &l.t, &mut l.r, &mut l.d, frames, &floats(&p), steered, &floats(&x), &floats(&y), &mut audio);
+        let given = sentivolus::block_marked(&self.setup, self.cursor, &l.targets, &mut l.records, &mut l.delay,
+            asked.frames, p, asked.steered, x, y, &mut audio);
         self.back(l);
         match given {
-            Err(Refusal(n)) => {
-                assert!(audio.iter().zip(&a).all(|(v, b)| v.to_bits() == *b), "a refused block changed its audio");
-                format!("= refused {n}\n")
+            Err(r) => {
+                let same = audio.iter().zip(a).all(|(v, b)| v.to_bits() == b.to_bits());
+                (format!("= refused {}{}\n", number(r), if same { "" } else { " and the audio is changed" }), 0)
             }
             Ok((cursor, rendered)) => {
                 self.cursor = cursor;
-                self.samples += (rendered * self.setup.voices * self.setup.channels) as u64;
-                let out = answers(&audio);
-                let samples = if digest { let (s1, s2) = sums(&out); format!("h {s1:08x} {s2:08x}\n") } else { format!("o{}\n", runs(&out)) };
-                format!("= ok {cursor} {rendered}\n{samples}")
+                (format!("= ok {cursor} {rendered}\n{}", samples(asked.digest, &audio)), (rendered * self.setup.voices * self.setup.channels) as u64)
             }
         }
     }
 
-    fn dump(&self) -> String {
-        format!("t{}\nr{}\nd{}\n", runs(&answers(&self.targets)), runs(&answers(&self.records)), runs(&answers(&self.delay)))
+    fn dump(&self, w: &mut Words) -> Result<String, Wrong> {
+        w.end()?;
+        Ok(format!("t{}\nr{}\nd{}\n", runs(&answers(&self.targets)), runs(&answers(&self.records)), runs(&answers(&self.delay))))
     }
 
-    fn poke(&mut self, w: &[&str]) {
-        let list_of = match w[0] { "t" => &mut self.targets, "r" => &mut self.records, _ => &mut self.delay };
-        let at = whole(w[1]) as usize;
-        for (i, b) in list(w[2..].iter().copied()).into_iter().enumerate() { list_of[at + i] = f32::from_bits(b); }
+    fn poke(&mut self, w: &mut Words) -> Result<(), Wrong> {
+        let list = match w.one_of("t, r or d", &["t", "r", "d"])? { "t" => &mut self.targets, "r" => &mut self.records, _ => &mut self.delay };
+        let (at, numbers) = (w.whole()?, w.list()?);
+        let (end, length) = (at.saturating_add(numbers.len()), list.len());
+        let part = list.get_mut(at..end).ok_or_else(|| w.wrong(&format!("a list of at least {end} numbers"), &format!("one of {length}")))?;
+        part.copy_from_slice(&numbers);
+        Ok(())
     }
 
-    fn table(&mut self, w: &[&str]) {
-        let mut t = Table { active: whole(w[0]) as u32, gain: f32::from_bits(bits(w[1])), sections: [0.0; 160] };
-        for (i, b) in list(w[2..].iter().copied()).into_iter().enumerate() { t.sections[i] = f32::from_bits(b); }
+    fn table(&mut self, w: &mut Words) -> Result<(), Wrong> {
+        let mut t = Table { active: w.u32()?, gain: w.float()?, sections: [0.0; 160] };
+        let numbers = w.list()?;
+        let part = t.sections.get_mut(..numbers.len()).ok_or_else(|| w.wrong("at most 160 numbers", &numbers.len().to_string()))?;
+        part.copy_from_slice(&numbers);
         self.setup.table = t;
+        Ok(())
     }
 }
 
-struct Lent { t: Vec<f32>, r: Vec<f32>, d: Vec<f32>, own: bool }
+fn lengths(w: &mut Words) -> Result<[usize; 3], Wrong> { Ok([w.length()?, w.length()?, w.length()?]) }
 
 fn kept(a: Result<usize, Refusal>) -> String {
-    match a { Ok(cursor) => format!("= ok {cursor}\n"), Err(Refusal(n)) => format!("= refused {n}\n") }
+    match a { Ok(cursor) => format!("= ok {cursor}\n"), Err(r) => format!("= refused {}\n", number(r)) }
+}
+
+fn samples(digest: bool, audio: &[f32]) -> String {
+    let words = answers(audio);
+    if !digest { return format!("o{}\n", runs(&words)); }
+    let (s1, s2) = sums(&words);
+    format!("h {s1:08x} {s2:08x}\n")
 }
 
 /// s1 += w + 1, s2 += s1 over the sample words.
@@ -130,45 +153,51 @@ fn sums(words: &[u32]) -> (u32, u32) {
     words.iter().fold((0u32, 0u32), |(a, b), &w| { let a = a.wrapping_add(w).wrapping_add(1); (a, b.wrapping_add(a)) })
 }
 
-fn is_answer(line: &str) -> bool { matches!(line.split(' ').next(), Some("=" | "o" | "h" | "t" | "r" | "d")) }
-
-/// The file again, answers recomputed; also how many voice-samples accepted blocks rendered.
-pub fn replay_counted(text: &str) -> (String, u64) {
-    let mut out = String::with_capacity(text.len());
-    let mut bank = Bank::new();
-    let mut lines = text.lines();
-    while let Some(line) = lines.next() {
-        if line.is_empty() || is_answer(line) { continue; }
-        out += line;
-        out.push('\n');
-        let words: Vec<&str> = line.split(' ').collect();
-        match words[0] {
-            "scenario" => { let n = bank.samples; bank = Bank::new(); bank.samples = n; }
-            "table" => bank.table(&words[1..]),
-            "open" => out += &bank.open(&words[1..]),
-            "setup" => bank.take_setup(&words[1..]),
-            "lend" => bank.lend = Some(std::array::from_fn(|i| whole(words[1 + i]) as usize)),
-            "cursor" => bank.cursor = whole(words[1]) as usize,
-            "poke" => bank.poke(&words[1..]),
-            "set" => out += &bank.set(&words[1..]),
-            "start" => out += &bank.start(&words[1..]),
-            "block" | "blockh" => {
-                let lists = ["p", "x", "y", "a"].map(|k| {
-                    let l = lines.next().unwrap_or_else(|| panic!("a block without its line {k}"));
-                    out += l;
-                    out.push('\n');
-                    let mut w = l.split(' ');
-                    assert_eq!(w.next(), Some(k), "the lists of a block go p, x, y, a");
-                    list(w)
-                });
-                out += &bank.block(&words[1..], words[0] == "blockh", lists);
-            }
-            "dump" => out += &bank.dump(),
-            w if w.starts_with('#') => {}
-            w => panic!("unknown line: {w}"),
-        }
+/// The rest of a block's first line and the four lines of lists after it.
+fn read_block(w: &mut Words, lines: &mut Lines, digest: bool, out: &mut Replayed) -> Result<(Asked, [Vec<f32>; 4]), Wrong> {
+    let asked = Asked { frames: w.whole()?, steered: w.mark()?, digest };
+    w.end()?;
+    let mut lists = [vec![], vec![], vec![], vec![]];
+    for (list, letter) in lists.iter_mut().zip(["p", "x", "y", "a"]) {
+        let expected = format!("the block's line {letter}");
+        let mut w = lines.wanted(&expected)?;
+        out.copy(w.line);
+        w.one_of(&expected, &[letter])?;
+        *list = w.list()?;
     }
-    (out, bank.samples)
+    Ok((asked, lists))
 }
 
-pub fn replay(text: &str) -> String { replay_counted(text).0 }
+/// Lines of answers, by their first word.
+pub fn is_answer(line: &str) -> bool { matches!(line.split(' ').next(), Some("=" | "o" | "h" | "t" | "r" | "d")) }
+
+pub fn replay(text: &str) -> Result<Replayed, Wrong> {
+    let mut out = Replayed::default();
+    let mut bank = Bank::new();
+    let mut lines = Lines::of(text);
+    while let Some(mut w) = lines.next() {
+        if w.line.is_empty() || is_answer(w.line) { continue; }
+        out.copy(w.line);
+        if w.line.starts_with('#') { continue; }
+        match w.name() {
+            "scenario" => bank = Bank::new(),
+            "table" => bank.table(&mut w)?,
+            "poke" => bank.poke(&mut w)?,
+            "setup" => { bank.take_setup(&mut w)?; w.end()?; }
+            "lend" => { bank.lend = Some(lengths(&mut w)?); w.end()?; }
+            "cursor" => { bank.cursor = w.whole()?; w.end()?; }
+            "open" => out.answer(&bank.open(&mut w)?),
+            "set" => out.answer(&bank.set(&mut w)?),
+            "start" => out.answer(&bank.start(&mut w)?),
+            "dump" => out.answer(&bank.dump(&mut w)?),
+            name @ ("block" | "blockh") => {
+                let (asked, lists) = read_block(&mut w, &mut lines, name == "blockh", &mut out)?;
+                let (answer, rendered) = bank.block(&asked, &lists);
+                out.answer(&answer);
+                out.samples += rendered;
+            }
+            name => return Err(w.wrong("a call, a preparation, an answer or a comment", &quoted(name))),
+        }
+    }
+    Ok(out)
+}

@@ -2,7 +2,7 @@
 use sentivolus::*;
 
 fn setup() -> Setup {
-    Setup { code: 2, rate: 48000.0, reference: 440.0, voices: 1, channels: 1, clean: false, table: Table::default() }
+    Setup::new(Structure::DjSweep, 48000.0, 1, 1)
 }
 
 fn lists(s: &Setup) -> (Vec<f32>, Vec<f32>, Vec<f32>) {
@@ -26,16 +26,26 @@ fn each_refusal_of_the_setup() {
     let good = setup();
     let huge = usize::MAX;
     let cases = [
-        (1, Setup { rate: f32::NAN, ..good }), (1, Setup { rate: 7999.9995, ..good }), (1, Setup { rate: 384_000.03, ..good }),
-        (2, Setup { reference: 0.99999994, ..good }), (2, Setup { reference: f32::INFINITY, ..good }),
-        (3, Setup { voices: 0, ..good }), (3, Setup { voices: 17, ..good }), (3, Setup { voices: huge, ..good }),
-        (4, Setup { channels: 0, ..good }), (4, Setup { channels: huge, ..good }),
-        (5, Setup { code: 0, ..good }), (5, Setup { code: 13, ..good }), (5, Setup { code: u32::MAX, ..good }),
+        (Refusal::Rate, Setup { rate: f32::NAN, ..good }),
+        (Refusal::Rate, Setup { rate: 7999.9995, ..good }),
+        (Refusal::Rate, Setup { rate: 384_000.03, ..good }),
+        (Refusal::Tuning, Setup { reference: 0.99999994, ..good }),
+        (Refusal::Tuning, Setup { reference: f32::INFINITY, ..good }),
+        (Refusal::Polyphony, Setup { voices: 0, ..good }),
+        (Refusal::Polyphony, Setup { voices: 17, ..good }),
+        (Refusal::Polyphony, Setup { voices: huge, ..good }),
+        (Refusal::Layout, Setup { channels: 0, ..good }),
+        (Refusal::Layout, Setup { channels: huge, ..good }),
+        (Refusal::Structure, Setup { code: 0, ..good }),
+        (Refusal::Structure, Setup { code: 13, ..good }),
+        (Refusal::Structure, Setup { code: u32::MAX, ..good }),
     ];
-    for (n, s) in cases {
+    for (refusal, s) in cases {
         let (mut t, mut r, mut d) = lists(&good);
-        assert_eq!(open(&s, &mut t, &mut r, &mut d), Err(Refusal(n)));
+        assert_eq!(open(&s, &mut t, &mut r, &mut d), Err(refusal));
         assert!(t.iter().chain(&r).chain(&d).all(|&x| x == 0.5));
+        assert_eq!((s.refusal(), s.lengths()), (Some(refusal), Err(refusal)));
+        assert_eq!(Bank::open(s).err(), Some(refusal));
     }
 }
 
@@ -44,29 +54,35 @@ fn each_refusal_of_the_calls() {
     let s = setup();
     let (mut t, mut r, mut d) = lists(&s);
     open(&s, &mut t, &mut r, &mut d).unwrap();
-    let p = VoiceParams::from_array([0.1, 0.0, 0.0, 0.0, 0.0, 1.0, 1.0, 0.0, 0.0]);
-    assert_eq!(set(&s, 9, &mut t[..9], 0, &p), Err(Refusal(6)));
-    assert_eq!(set(&s, 9, &mut t, usize::MAX, &p), Err(Refusal(7)));
-    assert_eq!(set(&s, 9, &mut t, 0, &VoiceParams { mix: f32::NAN, ..p }), Err(Refusal(8)));
+    let p = VoiceParams::default();
+    assert_eq!(set(&s, 9, &mut t[..9], 0, &p), Err(Refusal::Store));
+    assert_eq!(set(&s, 9, &mut t, usize::MAX, &p), Err(Refusal::Voice));
+    assert_eq!(set(&s, 9, &mut t, 0, &VoiceParams { mix: f32::NAN, ..p }), Err(Refusal::Knob));
     assert_eq!(set(&s, 9, &mut t, 0, &p), Ok(9));
-    assert_eq!(start(&s, 9, &t, &mut r[..29], &mut d, 0), Err(Refusal(6)));
-    assert_eq!(start(&s, 9, &t, &mut r, &mut d, 1), Err(Refusal(7)));
+    assert_eq!(start(&s, 9, &t, &mut r[..29], &mut d, 0), Err(Refusal::Store));
+    assert_eq!(start(&s, 9, &t, &mut r, &mut d, 1), Err(Refusal::Voice));
     assert_eq!(start(&s, 9, &t, &mut r, &mut d, 0), Ok(9));
     let mut audio = [0.25; 2];
-    for (n, frames, pitch, steered, x, y) in [
-        (9, 0, 2, false, 0, 0), (9, 4097, 2, false, 0, 0), (9, usize::MAX, 2, false, 0, 0),
-        (10, 2, 1, false, 0, 0), (10, 2, 2, true, 1, 2), (10, 2, 2, true, 2, 1), (10, 2, 2, false, 2, 2), (10, 1, 1, false, 0, 0),
+    for (refusal, frames, pitch, steered, x, y) in [
+        (Refusal::Frames, 0, 2, false, 0, 0),
+        (Refusal::Frames, 4097, 2, false, 0, 0),
+        (Refusal::Frames, usize::MAX, 2, false, 0, 0),
+        (Refusal::Buffer, 2, 1, false, 0, 0),
+        (Refusal::Buffer, 2, 2, true, 1, 2),
+        (Refusal::Buffer, 2, 2, true, 2, 1),
+        (Refusal::Buffer, 2, 2, false, 2, 2),
+        (Refusal::Buffer, 1, 1, false, 0, 0),
     ] {
         let l = [0.0f32; 2];
         let a = block_marked(&s, 9, &t, &mut r, &mut d, frames, &l[..pitch], steered, &l[..x], &l[..y], &mut audio);
-        assert_eq!(a, Err(Refusal(n)));
+        assert_eq!(a, Err(refusal));
         assert_eq!(audio, [0.25; 2]);
     }
 }
 
 #[test]
 fn comb2_moves_the_cursor_and_its_ring() {
-    let s = Setup { code: 9, channels: 2, ..setup() };
+    let s = Setup::new(Structure::Comb2, 48000.0, 1, 2);
     let (mut t, mut r, mut d) = lists(&s);
     open(&s, &mut t, &mut r, &mut d).unwrap();
     let mut audio = [1.0, -1.0];
@@ -79,8 +95,55 @@ fn comb2_moves_the_cursor_and_its_ring() {
 
 #[test]
 fn section_refuses_a_ninth_point() {
-    let d = Design { kinds: [2; 32], numbers: [0.0; 128], gain_db: 0.0 };
+    let d = Design::default();
     assert!(section(&d, 7, 0.0, 0.0).is_ok());
-    assert_eq!(section(&d, 8, 0.0, 0.0), Err(Refusal(11)));
+    assert_eq!(section(&d, 8, 0.0, 0.0), Err(Refusal::Point));
     assert_eq!(table(&d).active, 0);
+}
+
+#[test]
+fn refusals_have_numbers_and_words() {
+    for n in 1..=11 {
+        assert_eq!(Refusal::from_number(n).unwrap().number(), n);
+    }
+    assert_eq!((Refusal::from_number(0), Refusal::from_number(12)), (None, None));
+    let error: Box<dyn std::error::Error> = Box::new(Refusal::Polyphony);
+    assert_eq!((error.to_string(), Refusal::Knob.word()), ("refused 3, polyphony: voices not 1 to 16".into(), "knob"));
+}
+
+#[test]
+fn defaults_are_the_archives() {
+    assert_eq!(VoiceParams::default(), VoiceParams::from_array([0.1, 0.0, 0.0, 0.0, 0.0, 1.0, 1.0, 0.0, 0.0]));
+    let bank = Bank::open(setup()).unwrap();
+    assert_eq!(bank.targets(), targets_of(&VoiceParams::default()));
+    assert_eq!(version(), 200);
+}
+
+#[test]
+fn a_bank_does_what_the_free_calls_do() {
+    let s = Setup::new(Structure::Comb2, 44100.0, 3, 2);
+    let p = VoiceParams { resonance: 0.7, character: 0.4, morph_y: 0.2, ..VoiceParams::default() };
+    let (mut t, mut r, mut d) = lists(&s);
+    let mut bank = Bank::open(s).unwrap();
+    open(&s, &mut t, &mut r, &mut d).unwrap();
+    bank.set(2, &p).unwrap();
+    set(&s, 0, &mut t, 2, &p).unwrap();
+    bank.start(2).unwrap();
+    start(&s, 0, &t, &mut r, &mut d, 2).unwrap();
+    let (mut ours, mut theirs) = ([0.25; 30], [0.25; 30]);
+    let b = Block { frames: 5, pitch: &[60.0; 15], steering: None };
+    assert_eq!(bank.block(b, &mut ours), Ok(5));
+    assert_eq!(block(&s, 0, &t, &mut r, &mut d, b, &mut theirs), Ok((5, 5)));
+    assert_eq!(bank.block(Block { frames: 6, ..b }, &mut ours), Err(Refusal::Buffer));
+    assert_eq!((ours, bank.targets(), bank.records(), bank.delay(), bank.cursor()), (theirs, &t[..], &r[..], &d[..], 5));
+}
+
+#[test]
+fn each_setting_arrives() {
+    let p = VoiceParams::from_array([0.25, 0.5, 0.0, 0.125, 3.0, 0.75, 2.0, 0.375, 1.0]);
+    let t = targets_of(&p);
+    assert_eq!([t[0], t[1], t[4], t[5], t[6], t[7], t[8], t[9]], [0.25, 0.5, 3.0, 0.75, 2.0, 0.125, 0.375, 1.0]);
+    let mut bank = Bank::open(Setup::new(Structure::PoleZero, 8000.0, 2, 1)).unwrap();
+    bank.set(1, &p).unwrap();
+    assert_eq!(bank.targets()[10..], t);
 }

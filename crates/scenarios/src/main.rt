@@ -82,9 +82,13 @@ fn count_at(s: &[u8], at: usize, k: usize) -> usize {
     words::decimal_at(s, at, k, 0) as usize
 }
 
-// The low 32 bits of word k.
-fn code_at(s: &[u8], k: usize) -> u32 {
-    (words::decimal_at(s, 0, k, 0) % 4294967296) as u32
+// Word k as a number of 32 bits; the largest where it has more.
+fn u32_at(s: &[u8], k: usize) -> u32 {
+    let n = words::decimal_at(s, 0, k, 0);
+    if n > 4294967295 {
+        return 4294967295;
+    }
+    n as u32
 }
 
 // How often a number stands: once where its word ends at `at`, else as the decimal after a `*` says.
@@ -321,7 +325,7 @@ fn table_at(s: &[u8]) -> TableRead {
     let read = read_list(s, words::start(s, 0, 3), &mut sections);
     TableRead {
         table: Table {
-            active: code_at(s, 1),
+            active: u32_at(s, 1),
             sections: sections,
             gain: words::float_at(s, 0, 2),
         },
@@ -332,7 +336,7 @@ fn table_at(s: &[u8]) -> TableRead {
 // The setup of words 1 to 6, over a table.
 fn setup_at(s: &[u8], table: Table) -> Setup {
     Setup {
-        code: code_at(s, 1),
+        code: u32_at(s, 1),
         rate: words::float_at(s, 0, 2),
         reference: words::float_at(s, 0, 3),
         voices: count_at(s, 0, 4),

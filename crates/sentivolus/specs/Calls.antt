@@ -11,6 +11,10 @@ use Rattle.checks.specs.declared.Setup.{Setup}
 use Rattle.checks.specs.Setup.{engine}
 use Rattle.bank.specs.Bank.{before, openBy}
 
+-- the interface's version, 10,000 x major + 100 x minor + patch
+abbrev pub version : ℕ
+version = 200
+
 -- a setup from the numbers that a caller in C hands over
 abbrev pub setupOf : (code : ℕ) (rate reference : Float) (voices channels : ℕ) (clean : Bool)
     (active : ℕ) (sections : List Float) (gain : Float) → Setup
@@ -39,6 +43,20 @@ paramsOf resonance drive saturation character stereoOffset mix level morphX morp
       «morph_x» = morphX;
       «morph_y» = morphY;
     }
+
+-- those settings as nine numbers
+unfoldable pub paramNumbers : VoiceParams → List Float
+paramNumbers p =
+    p .resonance
+    ∷ p .drive
+    ∷ p .saturation
+    ∷ p .character
+    ∷ p .«stereo_offset»
+    ∷ p .mix
+    ∷ p .level
+    ∷ p .«morph_x»
+    ∷ p .«morph_y»
+    ∷ []
 
 -- the number of a run's newest answer: a refusal's, or 0
 abbrev pub numberIn : List Answer → ℕ

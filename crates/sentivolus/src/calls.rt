@@ -4,12 +4,41 @@ ghost use mathlib.Core.List.{[]};
 ghost use Rattle.voices.specs.Calls.{callSet, callStart};
 ghost use Rattle.checks.specs.Checks.{bankOf, blockFrom};
 ghost use Rattle.bank.specs.Bank.{cursorOf};
-ghost use Rattle.sentivolus.specs.Calls.{setupOf, paramsOf, OpenLeaves, CallLeaves, BlockLeaves};
+ghost use Rattle.filter.specs.Voice.{defaultParams};
+ghost use Rattle.sentivolus.specs.Calls.{version, setupOf, paramsOf, paramNumbers, OpenLeaves, CallLeaves, BlockLeaves};
 ghost use Rattle.sentivolus.specs.Answers.{numberOf, framesOr};
 use bank::Answer;
 use checks::Setup;
 use filter::VoiceParams;
 use pole_zero::Table;
+
+// The interface's version: 10,000 x major + 100 x minor + patch.
+#[no_mangle]
+pub extern "C" fn sentivolus_version() -> u32
+    ensures { λ r. ⌜ r ≡ version ⌝ }
+{
+    200
+}
+
+// The default settings of a voice, in the order of VoiceParams.
+#[no_mangle]
+pub extern "C" fn sentivolus_defaults(out: &mut [f32; 9])
+    ensures { λ _. ⌜ now (out .exit) ≡ paramNumbers defaultParams ⌝ }
+{
+    let p = filter::default_params();
+    let numbers = [
+        p.resonance,
+        p.drive,
+        p.saturation,
+        p.character,
+        p.stereo_offset,
+        p.mix,
+        p.level,
+        p.morph_x,
+        p.morph_y,
+    ];
+    *out = numbers;
+}
 
 fn setup_of(
     code: u32,

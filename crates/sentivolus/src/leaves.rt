@@ -115,17 +115,17 @@ pub extern "C" fn sentivolus_read(
 }
 
 #[no_mangle]
-pub extern "C" fn sentivolus_ratio_of(pitch: f32, reference: f32) -> f32
-    ensures { λ r. ⌜ r ≡ ratioOf record { 0 = pitch } record { 0 = reference } .0 ⌝ }
+pub extern "C" fn sentivolus_ratio_of(pitch: f32, reference_over_rate: f32) -> f32
+    ensures { λ r. ⌜ r ≡ ratioOf record { 0 = pitch } record { 0 = «reference_over_rate» } .0 ⌝ }
 {
-    filter::ratio_of(Pitch(pitch), Ratio(reference)).0
+    filter::ratio_of(Pitch(pitch), Ratio(reference_over_rate)).0
 }
 
 #[no_mangle]
-pub extern "C" fn sentivolus_gain(pitch: f32, reference: f32) -> f32
-    ensures { λ r. ⌜ r ≡ gainOf record { 0 = pitch } record { 0 = reference } ⌝ }
+pub extern "C" fn sentivolus_gain(pitch: f32, reference_over_rate: f32) -> f32
+    ensures { λ r. ⌜ r ≡ gainOf record { 0 = pitch } record { 0 = «reference_over_rate» } ⌝ }
 {
-    filter::gain(Pitch(pitch), Ratio(reference))
+    filter::gain(Pitch(pitch), Ratio(reference_over_rate))
 }
 
 // band, low, ic1 and ic2 after it.

@@ -1,0 +1,130 @@
+//! `compare scale` with stand-ins for the oracle: shell scripts that answer with the repository's own files, whole or spoilt.
+
+mod common;
+
+use common::{compare, stored, written, Ended};
+use std::os::unix::fs::PermissionsExt;
+
+fn scenarios() -> String { stored("crates/scenarios/stdin") }
+fn leaves() -> String { stored("crates/leaves/stdin") }
+
+/// How many scenarios and rows the repository's files have.
+fn asked() -> usize { scenarios().lines().filter(|l| l.starts_with("scenario ")).count() }
+fn rows() -> usize { leaves().lines().filter(|l| !l.starts_with('#')).count() }
+
+/// A script that answers `gen` and `leafgen` with these texts, and then runs `ending`. `run` is what it does with calls to answer.
+fn script(test: &str, scenarios: &str, leaves: &str, ending: &str, run: &str) -> String {
+    let gen = written(test, "gen", scenarios);
+    let leafgen = written(test, "leafgen", leaves);
+    let cases = format!("gen) cat '{}'; {ending} ;;\nleafgen) cat '{}'; {ending} ;;\nrun) {run} ;;", gen.display(), leafgen.display());
+    let path = written(test, "oracle", &format!("#!/bin/sh\ncase $1 in\n{cases}\nesac\n"));
+    std::fs::set_permissions(&path, std::fs::Permissions::from_mode(0o755)).expect("the script is a program");
+    path.display().to_string()
+}
+
+/// A comparison of one file that should have as many scenarios and rows as the repository's.
+fn scale(oracle: &str) -> Ended {
+    compare(&["scale", oracle, "--seed", "7", "--samples", "1", "--scenarios", &asked().to_string(), "--rows", &rows().to_string()], b"")
+}
+
+fn fails(e: &Ended, why: &str) {
+    assert_eq!(e.status, Some(1), "{}", e.out);
+    assert!(e.err.contains(why), "{}", e.err);
+    assert!(!e.out.contains("differences"), "{}", e.out);
+}
+
+fn fails_with(test: &str, scenarios: &str, leaves: &str, why: &str) {
+    fails(&scale(&script(test, scenarios, leaves, "exit 0", "exit 1")), why);
+}
+
+/// The text up to where `mark` stands last.
+fn before_last<'a>(text: &'a str, mark: &str) -> &'a str { &text[..text.rfind(mark).expect("the mark") + 1] }
+
+/// The text with the first number of the first line that starts so changed.
+fn changed(text: &str, start: &str) -> String {
+    let at = text.find(start).expect("the line") + start.len();
+    let other = if &text[at..at + 1] == "0" { "1" } else { "0" };
+    format!("{}{other}{}", &text[..at], &text[at + 1..])
+}
+
+#[test]
+fn a_whole_oracle_passes() {
+    let e = scale(&script("whole", &scenarios(), &leaves(), "exit 0", "exit 1"));
+    assert_eq!((e.status, e.err.as_str()), (Some(0), ""));
+    assert!(e.out.contains(&format!(" voice-samples, {} leaves, ", rows())) && e.out.contains(": 0 differences\n"), "{}", e.out);
+}
+
+#[test]
+fn no_oracle_fails() {
+    fails(&scale("/bin/false"), "exit status: 1");
+    fails(&scale("/nowhere/oracle"), "No such file");
+}
+
+#[test]
+fn a_failing_oracle_fails() {
+    let failing = |test: &str, ending: &str| scale(&script(test, &scenarios(), &leaves(), ending, "exit 1"));
+    let e = failing("failing", "echo 'the oracle says why' >&2; exit 1");
+    fails(&e, "exit status: 1");
+    assert!(e.err.contains("the oracle says why\n"), "{}", e.err);
+    fails(&failing("killed", "kill -9 $$"), "signal: 9");
+}
+
+#[test]
+fn a_silent_oracle_fails() { fails_with("silent", "", "", "the last line has no newline") }
+
+#[test]
+fn scenarios_cut_short_fail() {
+    let whole = scenarios();
+    let middle = &whole[..whole[..whole.len() / 2].rfind(' ').expect("a blank")];
+    fails_with("cut_in_a_line", middle, &leaves(), "the last line has no newline");
+    fails_with("cut_after_a_line", before_last(middle, "\n"), &leaves(), &format!("scenarios instead of {}", asked()));
+    fails_with("cut_after_a_call", before_last(&whole, "\ndump\n"), &leaves(), "instead of a dump");
+    fails_with("cut_after_a_scenario", before_last(&whole, "\nscenario "), &leaves(), &format!("{} scenarios instead of {}", asked() - 1, asked()));
+    fails_with("cut_newline", whole.trim_end(), &leaves(), "the last line has no newline");
+}
+
+#[test]
+fn leaves_cut_short_fail() {
+    let whole = leaves();
+    fails_with("leaves_cut_in_a_line", &scenarios(), before_last(&whole, " ="), "the last line has no newline");
+    fails_with("leaves_cut_after_a_line", &scenarios(), before_last(&whole, "\nread "), &format!("{} rows instead of {}", rows() - 1, rows()));
+    fails_with("leaves_missing", &scenarios(), "", "the last line has no newline");
+    let without_tan: String = whole.lines().map(|l| format!("{}\n", if l.starts_with("tan ") { "exp2 00000000 = 3f800000" } else { l })).collect();
+    fails_with("leaves_without_tan", &scenarios(), &without_tan, "no row of tan");
+}
+
+#[test]
+fn a_changed_answer_fails() {
+    fails_with("changed_sample", &changed(&scenarios(), "\no "), &leaves(), "the scenarios differ at line ");
+    fails_with("changed_leaf", &scenarios(), &changed(&leaves(), "exp2 3f800000 = "), "the leaves differ at line ");
+}
+
+#[test]
+fn scenarios_without_a_sample_fail() {
+    let oracle = script("no_sample", "scenario a\ndump\nt\nr\nd\n", &leaves(), "exit 0", "exit 1");
+    let e = compare(&["scale", &oracle, "--samples", "1", "--scenarios", "1", "--rows", &rows().to_string()], b"");
+    fails(&e, "no voice-sample");
+}
+
+/// An oracle whose sums are all zero: of the scenario with a block of sums that block alone is left.
+#[test]
+fn a_difference_is_shrunk() {
+    let zeros = "sed 's/^h .*/h 00000000 00000000/'";
+    let spoilt: String = scenarios().lines().map(|l| format!("{}\n", if l.starts_with("h ") { "h 00000000 00000000" } else { l })).collect();
+    let oracle = script("shrunk", &spoilt, &leaves(), "exit 0", &format!("'{}' run | {zeros}", env!("CARGO_BIN_EXE_compare")));
+    let e = scale(&oracle);
+    fails(&e, "with the Rust's answers:\nscenario ");
+    let small = e.err.split("with the Rust's answers:\n").nth(1).and_then(|t| t.split("and with ours:").next()).expect("the scenario");
+    assert_eq!(small.lines().filter(|l| l.starts_with("block")).count(), 1, "{small}");
+}
+
+#[test]
+fn a_wrong_command_line_is_a_usage_error() {
+    for args in [&["scale"][..], &["scale", "/bin/true", "10"], &["scale", "/bin/true", "--seed"], &["scale", "/bin/true", "--seed", "-1"],
+        &["scale", "/bin/true", "--samples", "0"], &["scale", "/bin/true", "--samples", "18446744073709551616"], &["scale", "/bin/true", "--other"]] {
+        let e = compare(args, b"");
+        assert_eq!((e.status, e.out.as_str()), (Some(2), ""), "{args:?}");
+        assert!(e.err.contains("usage: compare scale"), "{}", e.err);
+    }
+    assert_eq!(compare(&["scale", "--help"], b"").status, Some(0));
+}

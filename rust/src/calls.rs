@@ -1,0 +1,190 @@
+//! The bank's calls on lent lists.
+//!
+//! Layouts, with slot = channel × voices + voice: targets 10 a voice (resonance, drive, drive gain, inverse knee, offset, mix, level, character,
+//! x, y); records 30 a slot (ten smoothed numbers in that order, then twenty states); delay [`ring_len`] a slot; pitch, x and y by frame, then
+//! voice; audio by frame, then channel, then voice.
+
+use crate::floats::ieee;
+use crate::refusal::answer;
+use crate::{ffi, ring_len, Refusal, Table};
+
+/// The structures that a bank's filters can have.
+#[derive(Clone, Copy, Debug, PartialEq, Eq, Hash)]
+#[non_exhaustive]
+pub enum Structure {
+    /// A shaped state-variable stage; character goes from low-pass by notch to high-pass.
+    BuzzMorph = 1,
+    /// Low-pass below the middle of the cutoff's range, flat at it, high-pass above.
+    DjSweep = 2,
+    /// All-pass stages in series; character sets how many, 1 to 8.
+    Diffuser = 3,
+    /// A ladder of saturating stages; character slows the cutoff.
+    TransistorLadder = 4,
+    /// Coupled stages after an asymmetric shaper; character slows the cutoff.
+    DiodeLadder = 5,
+    /// Coupled stages without the shaper; character slows the cutoff.
+    CleanLadder = 6,
+    /// The transistor ladder, overdriven by character.
+    DrivenLadder = 7,
+    /// Up to eight drawn sections, blended by x and y; character slows cutoff, x and y.
+    PoleZero = 8,
+    /// A feedback comb with two taps, the second up to two octaves above by character.
+    Comb2 = 9,
+    /// A four-pole ladder; character goes from low-pass by notch to high-pass.
+    ExpanderMultimode = 10,
+    /// The four-pole ladder's band-pass.
+    ExpanderBandPass = 11,
+    /// Sallen-Key with a saturating feedback; character goes from low-pass to high-pass.
+    K35 = 12,
+}
+
+/// What a bank is opened with; every later call is handed it again.
+#[derive(Clone, Copy, Debug, PartialEq)]
+pub struct Setup {
+    /// A [`Structure`]'s number, 1 to 12.
+    pub code: u32,
+    /// Samples a second, 8,000 to 384,000.
+    pub rate: f32,
+    /// Hertz of pitch 69, 1 to 20,000.
+    pub reference: f32,
+    /// 1 to 16.
+    pub voices: usize,
+    /// 1, or 2: left and right.
+    pub channels: usize,
+    /// Clean drive: the clipper's input 24 dB lower and its output 24 dB higher.
+    pub clean: bool,
+    /// Read by [`Structure::PoleZero`] alone.
+    pub table: Table,
+}
+
+impl Setup {
+    /// A setup with reference 440, no clean drive and a pole-zero table that passes its input.
+    pub fn new(structure: Structure, rate: f32, voices: usize, channels: usize) -> Self {
+        Setup { code: structure as u32, rate, reference: 440.0, voices, channels, clean: false, table: Table::default() }
+    }
+
+    /// The refusal that every call meets with this setup, one of the first five, if it meets one.
+    pub fn refusal(&self) -> Option<Refusal> {
+        // Of empty lists `Store` is the answer once the setup is right.
+        open(self, &mut [], &mut [], &mut []).err().filter(|r| *r != Refusal::Store)
+    }
+
+    /// The lengths of targets, records and delay that this setup asks for.
+    pub fn lengths(&self) -> Result<[usize; 3], Refusal> {
+        match self.refusal() {
+            Some(refusal) => Err(refusal),
+            None => {
+                let slots = self.voices * self.channels;
+                Ok([10 * self.voices, 30 * slots, ring_len(self.rate) * slots])
+            }
+        }
+    }
+}
+
+/// One voice's settings. A bank glides to new ones over a few milliseconds. NaN is refused in the first four and in `mix`.
+#[derive(Clone, Copy, Debug, PartialEq)]
+pub struct VoiceParams {
+    /// Held to 0 .. 1.
+    pub resonance: f32,
+    /// Held to 0 .. 1: gain of 0 to 24 dB into a soft clipper before the filter.
+    pub drive: f32,
+    /// Of the resonance path, held to 0 .. 1.
+    pub saturation: f32,
+    /// Held to 0 .. 1; what it does is the structure's.
+    pub character: f32,
+    /// Semitones: the right channel's cutoff rises by it, the left's falls. NaN or infinite acts as 0.
+    pub stereo_offset: f32,
+    /// Held to 0 .. 1: 0 the input, 1 the filtered.
+    pub mix: f32,
+    /// Linear gain after the mix, held to 0 and above. NaN or infinite acts as 0.
+    pub level: f32,
+    /// Of [`Structure::PoleZero`], held to 0 .. 1; NaN acts as 0.
+    pub morph_x: f32,
+    /// As `morph_x`.
+    pub morph_y: f32,
+}
+
+impl Default for VoiceParams {
+    /// The archive's defaults: resonance 0.1, mix and level 1, all else 0.
+    fn default() -> Self {
+        let mut numbers = [0.0; 9];
+        // SAFETY: `numbers` has the nine numbers that are written.
+        ieee(|| unsafe { ffi::sentivolus_defaults(&mut numbers) });
+        VoiceParams::from_array(numbers)
+    }
+}
+
+impl VoiceParams {
+    /// The settings in the order of the fields.
+    pub fn from_array(p: [f32; 9]) -> Self {
+        let [resonance, drive, saturation, character, stereo_offset, mix, level, morph_x, morph_y] = p;
+        VoiceParams { resonance, drive, saturation, character, stereo_offset, mix, level, morph_x, morph_y }
+    }
+}
+
+/// A block's input beside its audio.
+#[derive(Clone, Copy, Debug)]
+pub struct Block<'a> {
+    /// 1 to 4,096.
+    pub frames: usize,
+    /// The cutoff in semitones, 69 being the reference: frames × voices numbers.
+    pub pitch: &'a [f32],
+    /// x and y, added to the smoothed `morph_x` and `morph_y` and the sums held to 0 .. 1: as many numbers as pitch.
+    pub steering: Option<(&'a [f32], &'a [f32])>,
+}
+
+/// The archive's version: 10,000 × major + 100 × minor + patch.
+pub fn version() -> u32 {
+    // SAFETY: takes nothing.
+    unsafe { ffi::sentivolus_version() }
+}
+
+/// One call of the archive, the setup's numbers first.
+macro_rules! call {
+    ($name:ident, $s:expr $(, $rest:expr)*) => {
+        answer(ieee(|| unsafe {
+            ffi::$name($s.code, $s.rate, $s.reference, $s.voices, $s.channels, $s.clean,
+                $s.table.active, &$s.table.sections, $s.table.gain $(, $rest)*)
+        }))
+    };
+}
+
+/// Opens a bank on the lent lists, every voice at the defaults and started; answers the cursor, 0.
+pub fn open(s: &Setup, targets: &mut [f32], records: &mut [f32], delay: &mut [f32]) -> Result<usize, Refusal> {
+    // SAFETY: each pointer and length are of one slice, and no two of them overlap.
+    call!(sentivolus_open, s, targets.as_mut_ptr(), targets.len(), records.as_mut_ptr(), records.len(), delay.as_mut_ptr(), delay.len())
+        .map(|()| 0)
+}
+
+/// Writes one voice's targets; answers the cursor. Of the lists it measures targets alone.
+pub fn set(s: &Setup, cursor: usize, targets: &mut [f32], voice: usize, p: &VoiceParams) -> Result<usize, Refusal> {
+    // SAFETY: pointer and length are of one slice.
+    call!(sentivolus_set, s, targets.as_mut_ptr(), targets.len(), voice,
+        p.resonance, p.drive, p.saturation, p.character, p.stereo_offset, p.mix, p.level, p.morph_x, p.morph_y)
+        .map(|()| cursor)
+}
+
+/// Starts one voice: copies its targets to its smoothed numbers and zeroes its states and rings; answers the cursor.
+pub fn start(s: &Setup, cursor: usize, targets: &[f32], records: &mut [f32], delay: &mut [f32], voice: usize) -> Result<usize, Refusal> {
+    // SAFETY: each pointer and length are of one slice, and those that are written overlap no other.
+    call!(sentivolus_start, s, targets.as_ptr(), targets.len(), records.as_mut_ptr(), records.len(), delay.as_mut_ptr(), delay.len(), voice)
+        .map(|()| cursor)
+}
+
+/// Filters a block of audio in place; answers the new cursor and the frames rendered.
+pub fn block(s: &Setup, cursor: usize, targets: &[f32], records: &mut [f32], delay: &mut [f32], b: Block<'_>,
+    audio: &mut [f32]) -> Result<(usize, usize), Refusal> {
+    let (x, y) = b.steering.unwrap_or((&[], &[]));
+    block_marked(s, cursor, targets, records, delay, b.frames, b.pitch, b.steering.is_some(), x, y, audio)
+}
+
+/// [`block`] with the steering as a mark and two lists, which a wrong call may hold at odds.
+#[allow(clippy::too_many_arguments)]
+pub fn block_marked(s: &Setup, cursor: usize, targets: &[f32], records: &mut [f32], delay: &mut [f32], frames: usize,
+    pitch: &[f32], steered: bool, x: &[f32], y: &[f32], audio: &mut [f32]) -> Result<(usize, usize), Refusal> {
+    let (mut next, mut rendered) = (cursor, 0usize);
+    // SAFETY: each pointer and length are of one slice, and those that are written, with `next` and `rendered`, overlap no other.
+    call!(sentivolus_block, s, &mut next, targets.as_ptr(), targets.len(), records.as_mut_ptr(), records.len(), delay.as_mut_ptr(), delay.len(),
+        frames, pitch.as_ptr(), pitch.len(), steered, x.as_ptr(), x.len(), y.as_ptr(), y.len(), audio.as_mut_ptr(), audio.len(), &mut rendered)
+        .map(|()| (next, rendered))
+}

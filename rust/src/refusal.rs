@@ -1,0 +1,83 @@
+//! The refusals of document 01.
+
+use std::fmt;
+
+/// Why a call was refused; it changed nothing. Checks run in this order, each call making those whose values it takes.
+#[derive(Clone, Copy, Debug, PartialEq, Eq, Hash)]
+#[non_exhaustive]
+pub enum Refusal {
+    /// The rate is NaN, below 8,000 or above 384,000.
+    Rate = 1,
+    /// The reference is NaN, below 1 or above 20,000.
+    Tuning = 2,
+    /// The voices are not 1 to 16.
+    Polyphony = 3,
+    /// The channels are not 1 or 2.
+    Layout = 4,
+    /// The code is not 1 to 12.
+    Structure = 5,
+    /// Targets, records or delay are not exactly as long as the setup asks.
+    Store = 6,
+    /// The voice number is not below voices.
+    Voice = 7,
+    /// Resonance, drive, saturation, character or mix is NaN.
+    Knob = 8,
+    /// The frames are 0 or above 4,096.
+    Frames = 9,
+    /// Pitch, x, y or audio is not exactly as long as the frames ask.
+    Buffer = 10,
+    /// The point number is above 7.
+    Point = 11,
+}
+
+/// Each refusal with its word and its condition.
+const ALL: [(Refusal, &str, &str); 11] = [
+    (Refusal::Rate, "rate", "rate NaN, below 8,000 or above 384,000"),
+    (Refusal::Tuning, "tuning", "reference NaN, below 1 or above 20,000"),
+    (Refusal::Polyphony, "polyphony", "voices not 1 to 16"),
+    (Refusal::Layout, "layout", "channels not 1 or 2"),
+    (Refusal::Structure, "structure", "code not 1 to 12"),
+    (Refusal::Store, "store", "targets, records or delay of a wrong length"),
+    (Refusal::Voice, "voice", "voice number not below voices"),
+    (Refusal::Knob, "knob", "NaN resonance, drive, saturation, character or mix"),
+    (Refusal::Frames, "frames", "frames 0 or above 4,096"),
+    (Refusal::Buffer, "buffer", "pitch, x, y or audio of a wrong length"),
+    (Refusal::Point, "point", "point number above 7"),
+];
+
+impl Refusal {
+    /// The refusal of a number, 1 to 11.
+    pub fn from_number(number: u32) -> Option<Refusal> {
+        ALL.iter().map(|row| row.0).find(|r| r.number() == number)
+    }
+
+    /// Its number in document 01.
+    pub fn number(self) -> u32 {
+        self as u32
+    }
+
+    /// The trade's word for it.
+    pub fn word(self) -> &'static str {
+        ALL[self as usize - 1].1
+    }
+}
+
+impl fmt::Display for Refusal {
+    fn fmt(&self, f: &mut fmt::Formatter<'_>) -> fmt::Result {
+        let (_, word, condition) = ALL[*self as usize - 1];
+        write!(f, "refused {}, {word}: {condition}", self.number())
+    }
+}
+
+impl std::error::Error for Refusal {}
+
+/// The archive's answer: 0, or a refusal's number.
+pub(crate) fn answer(number: u32) -> Result<(), Refusal> {
+    match Refusal::from_number(number) {
+        Some(refusal) => Err(refusal),
+        None => {
+            assert_eq!(number, 0, "the archive answers a refusal that this wrapper does not know: they are of different versions");
+            Ok(())
+        }
+    }
+}

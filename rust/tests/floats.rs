@@ -1,0 +1,87 @@
+//! The same bits in every float environment, and the caller's comes back.
+use sentivolus::*;
+use std::arch::asm;
+
+fn mxcsr() -> u32 {
+    let mut value = 0u32;
+    // SAFETY: writes `value` alone.
+    unsafe { asm!("stmxcsr [{}]", in(reg) &mut value) };
+    value
+}
+
+/// # Safety
+/// No float arithmetic of Rust's runs until the default is back.
+unsafe fn put_mxcsr(value: u32) {
+    asm!("ldmxcsr [{}]", in(reg) &value);
+}
+
+const DEFAULT: u32 = 0x1f80;
+/// FTZ and DAZ; rounding down, up and to zero; every exception trapped; all of it.
+const MODES: [u32; 6] = [0x9fc0, 0x3f80, 0x5f80, 0x7f80, 0x0000, 0xe040];
+
+fn bells() -> Design {
+    let mut d = Design::default();
+    for i in 0..32 {
+        d.put(i / 8, i % 8, Point { kind: PointKind::Bell(3.0), frequency: 90.0 * (1 + i / 8 + i % 8) as f32, q: 2.0 });
+    }
+    d
+}
+
+/// Noise, loud for voice 0 and about the smallest normal number for voice 1.
+fn noise(n: usize) -> Vec<f32> {
+    let mut x = 1u32;
+    (0..n).map(|i| {
+        x = x.wrapping_mul(1664525).wrapping_add(1013904223);
+        let loud = (x as i32) as f32 * 2f32.powi(-32);
+        if i % 2 == 0 { loud } else { loud * 2f32.powi(-124) }
+    }).collect()
+}
+
+/// A sitting whose every call is made in the float environment of `mode`: the bits of all that it leaves.
+fn sitting(code: u32, mode: u32) -> Vec<u32> {
+    let design = bells();
+    let p = VoiceParams::from_array([0.7, 0.4, 0.3, 0.35, 1.7, 0.9, 1.0, 0.0, 0.0]);
+    let pitch: Vec<f32> = (0..512).map(|i| 60.0 + (i % 31) as f32).collect();
+    let mut audio = noise(1024);
+    let b = Block { frames: 256, pitch: &pitch, steering: None };
+    let mut bank = None;
+    // SAFETY: between the two only calls of the wrapper are made, which put the default back for themselves.
+    unsafe { put_mxcsr(mode) };
+    let setup = Setup { code, table: table(&design), ..Setup::new(Structure::PoleZero, 48000.0, 2, 2) };
+    let answer = Bank::open(setup).and_then(|mut opened| {
+        opened.set(1, &p)?;
+        opened.start(1)?;
+        opened.block(b, &mut audio)?;
+        bank = Some(opened);
+        Ok(())
+    });
+    let left = mxcsr();
+    unsafe { put_mxcsr(DEFAULT) };
+    assert_eq!((answer, left & !0x3f), (Ok(()), mode & !0x3f));
+    let bank = bank.unwrap();
+    let lists = [&audio[..], bank.targets(), bank.records(), bank.delay(), &bank.setup().table.sections];
+    lists.concat().iter().map(|x| x.to_bits()).chain([bank.cursor() as u32]).collect()
+}
+
+#[test]
+fn the_same_bits_in_every_float_environment() {
+    for code in 1..=12 {
+        let usual = sitting(code, DEFAULT);
+        for mode in MODES {
+            assert!(sitting(code, mode) == usual, "code {code}, MXCSR {mode:04x}");
+        }
+    }
+}
+
+#[test]
+fn leaves_too() {
+    let t = openings();
+    let smallest = f32::from_bits(1);
+    for mode in MODES {
+        // SAFETY: as above.
+        unsafe { put_mxcsr(mode) };
+        let (a, b, c) = (root(smallest, &t), exp2(0.3), soft_clip(0.7));
+        unsafe { put_mxcsr(DEFAULT) };
+        assert_eq!([a, b, c].map(f32::to_bits), [root(smallest, &t), exp2(0.3), soft_clip(0.7)].map(f32::to_bits), "MXCSR {mode:04x}");
+    }
+}
