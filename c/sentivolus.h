@@ -1,6 +1,6 @@
 /* Sentivolus, the proved voice filter bank: its interface for C and C++.
  *
- * Link target/staticlib/libsentivolus.a (x86-64 Linux; `rt staticlib sentivolus` writes it). It needs no other library.
+ * Link target/staticlib/libsentivolus.a (x86-64 Linux; `rt staticlib sentivolus` writes it). It needs memcpy and memset alone.
  * example.c, beside this file, opens a bank and renders a chord.
  *
  * 1. Numbers and names   2. Structs   3. The archive's symbols   4. The calls
