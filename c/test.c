@@ -145,8 +145,8 @@ static void float_environments(void)
         raw_block(&other, code, modes[2]);
         rounded += !same(&usual, &other);
     }
-    check(flushed >= 11, "the archive's own block tells FTZ and DAZ in nearly every code, so the comparison sees them", flushed);
-    check(rounded == 12, "and another rounding in every code", rounded);
+    check(flushed == 12, "the archive's own block gives other bits with FTZ and DAZ, in every code: the comparison sees them", flushed);
+    check(rounded == 12, "and with another rounding", rounded);
 }
 
 static void refusals(void)
