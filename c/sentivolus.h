@@ -161,7 +161,7 @@ typedef struct sentivolus_params {
 /* A block's input beside its audio. Where `steered` is set, x and y are added to the smoothed morph_x and morph_y and the sums held to 0 .. 1. */
 typedef struct sentivolus_input {
     size_t frames;      /* 1 to 4,096 */
-    const float *pitch; /* the cutoff in semitones, 69 being the reference; the cutoff stays just below half the rate */
+    const float *pitch; /* the cutoff in semitones, 69 being the reference; held to 0.49 of the rate */
     size_t pitch_len;   /* frames x voices */
     bool steered;
     const float *x;
@@ -173,7 +173,7 @@ typedef struct sentivolus_input {
 /* One point of a design: a second-order section. NaN takes the default. */
 typedef struct sentivolus_design_point {
     uint32_t kind;   /* a sentivolus_kind; default Bypass */
-    float frequency; /* hertz at cutoff pitch 68.4, held to 8 .. 22,050; default 1,000 */
+    float frequency; /* hertz at cutoff pitch 68.4 and reference 440, held to 8 .. 22,050; default 1,000 */
     float q;         /* held to 0.1 .. 40; default 0.7071 */
     float a;         /* Bell: its gain in dB, held to -18 .. 18, default 0. Free: its zero's frequency, as frequency */
     float b;         /* Free: its zero's Q, as q */
@@ -239,7 +239,7 @@ void sentivolus_point(uint32_t kind, float frequency, float q, float a, float b,
 /* A slot's ring at a rate: 1,024 to 65,536 cells, a power of two; 0 for a refused rate. */
 size_t sentivolus_ring_len(float rate);
 
-/* The cutoff of a pitch in cycles a sample, capped just below 1/2, and the integrator's gain tan(pi x that). reference_over_rate is the
+/* The cutoff of a pitch in cycles a sample, 0.49 at most, and the integrator's gain tan(pi x that). reference_over_rate is the
  * setup's reference / rate. */
 float sentivolus_ratio_of(float pitch, float reference_over_rate);
 float sentivolus_gain(float pitch, float reference_over_rate);
@@ -251,18 +251,18 @@ float sentivolus_read(const float *buf, size_t buf_len, size_t len, size_t curso
 /* One state-variable stage with gain g and damping k: band, low, and the states ic1 and ic2 after it. */
 void sentivolus_svf(float ic1, float ic2, float x, float g, float k, float out[4]);
 
-/* The float functions that the filters are made of, for comparison by running. t is the table that sentivolus_openings writes. */
-float sentivolus_max(float a, float b);
+/* The float functions that the filters are made of, for comparison by running. openings is the table that sentivolus_openings writes. */
+float sentivolus_max(float a, float b);  /* of a NaN and a number the number, of two zeros the first; so min */
 float sentivolus_min(float a, float b);
-float sentivolus_exp2(float v);
-float sentivolus_tan(float w);
-float sentivolus_soft_clip(float x);
-void sentivolus_openings(uint8_t t[1024]);
-float sentivolus_root(float x, const uint8_t t[1024]);
-float sentivolus_log2(float q);
-float sentivolus_saturation_gain(float x, float inv_a, const uint8_t t[1024]);
-float sentivolus_asym(float x);
-float sentivolus_hermite(float newer, float p0, float p1, float older, float t);
+float sentivolus_exp2(float v);          /* v held to -12 .. 12, NaN as -12 */
+float sentivolus_tan(float w);           /* near tan(w) for 0 .. 0.49 pi */
+float sentivolus_soft_clip(float x);     /* x held to -3 .. 3, NaN as -3 */
+void sentivolus_openings(uint8_t openings[1024]);
+float sentivolus_root(float x, const uint8_t openings[1024]); /* the f32 nearest the square root; NaN below 0 */
+float sentivolus_log2(float q);          /* of 1/64 to below 64, in steps of 2^-20; 0 elsewhere */
+float sentivolus_saturation_gain(float x, float inv_a, const uint8_t openings[1024]); /* of a level x, with one over the knee */
+float sentivolus_asym(float x);          /* the asymmetric shaper */
+float sentivolus_hermite(float newer, float p0, float p1, float older, float t); /* the cubic from p0 (t = 0) to p1 (t = 1) */
 
 /* ---- 4. The calls ---- */
 

@@ -2,15 +2,16 @@
 # scale.sh: random scenarios and leaves from fresh seeds, the proved library beside the published Rust. `scale.sh --help` lists the options.
 set -eu
 . "$(dirname "$0")/common.sh"
-usage="usage: scale.sh [--seed N] [--samples N] [--oracle FOLDER] [--help]
+usage="usage: scale.sh [--seed N] [--samples N] [--rows N] [--oracle FOLDER] [--help]
   --seed N         the first seed (from the clock where it is not given)
   --samples N      voice-samples to compare (10000000)
+  --rows N         rows that a leaves file of this oracle's has (5511)
   --oracle FOLDER  the folder that holds assemble.py (../shared/oracle beside the repository)"
 options=()
 while [ $# -gt 0 ]; do
     case $1 in
         --help) echo "$usage" && exit 0 ;;
-        --seed | --samples)
+        --seed | --samples | --rows)
             case ${2-} in '' | *[!0-9]*) misused "$1 takes a whole number" ;; esac
             options+=("$1" "$2")
             ;;

@@ -4,13 +4,16 @@ use std::path::PathBuf;
 
 fn main() {
     let package = PathBuf::from(std::env::var("CARGO_MANIFEST_DIR").expect("cargo sets CARGO_MANIFEST_DIR"));
-    let called_in = std::env::var("PWD").map(PathBuf::from).unwrap_or(package.clone());
+    let called_in = std::env::var("PWD").map_or(package.clone(), PathBuf::from);
     let folder = match std::env::var("SENTIVOLUS_LIB") {
-        Ok(named) => [&called_in, &package].map(|from| from.join(&named)).into_iter().find(|f| f.is_dir()).unwrap_or(called_in.join(named)),
+        Ok(named) => called_in.join(named), // of an absolute path that path alone
         Err(_) => package.join("../target/staticlib"),
     };
     let archive = folder.join("libsentivolus.a");
     println!("cargo:rerun-if-env-changed=SENTIVOLUS_LIB");
+    if std::env::var("SENTIVOLUS_LIB").is_ok_and(|named| !named.starts_with('/')) {
+        println!("cargo:rerun-if-env-changed=PWD"); // the same words name another folder there
+    }
     println!("cargo:rerun-if-changed={}", archive.display());
     if !archive.is_file() {
         eprintln!("sentivolus: there is no archive {}", archive.display());

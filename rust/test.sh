@@ -9,10 +9,12 @@ cd "$here"
 cargo test --quiet --release --offline
 cargo run --quiet --release --offline --example chord | cmp - ../c/example.txt
 
-# a relative SENTIVOLUS_LIB counts from where cargo is called
+# a relative SENTIVOLUS_LIB counts from where cargo is called, anew in each folder
+built() { SENTIVOLUS_LIB=target/staticlib cargo test --quiet --release --offline --manifest-path "$here/Cargo.toml" --target-dir "$scratch/build" --test bank; }
 cd "$here/.."
-SENTIVOLUS_LIB=target/staticlib cargo test --quiet --release --offline --manifest-path rust/Cargo.toml --target-dir "$scratch/target" --test bank >/dev/null
-if SENTIVOLUS_LIB=$scratch/none cargo build --quiet --release --offline --manifest-path rust/Cargo.toml --target-dir "$scratch/target" 2>"$scratch/said"; then
+built >/dev/null
+cd "$scratch"
+if built >/dev/null 2>"$scratch/said"; then
     echo "FAILED: built without an archive"
     exit 1
 fi

@@ -48,7 +48,7 @@ pub enum PointKind {
 pub struct Point {
     /// What it does.
     pub kind: PointKind,
-    /// Hertz at cutoff pitch 68.4, held to 8 .. 22,050; NaN acts as 1,000.
+    /// Hertz at cutoff pitch 68.4 and reference 440, held to 8 .. 22,050; NaN acts as 1,000.
     pub frequency: f32,
     /// Held to 0.1 .. 40; NaN acts as 0.7071.
     pub q: f32,

@@ -1,8 +1,8 @@
 //! Safe calls into the proved voice filter bank (x86-64 Linux).
 //!
 //! [`Bank`] owns its lists; [`open`], [`set`], [`start`] and [`block`] work on lists that the caller lends. Both answer a [`Refusal`] where the
-//! arguments are wrong, which changes nothing. Every call runs with MXCSR at its default, rounding to nearest with subnormals, whatever the
-//! thread has set, and gives the thread's back: the bits are the same where an audio host flushes subnormals. Nothing is kept between calls,
+//! arguments are wrong, which changes nothing. Every call that computes runs with MXCSR at its default, rounding to nearest with
+//! subnormals, whatever the thread has set, and gives the thread's back: the bits are the same where an audio host flushes subnormals. Nothing is kept between calls,
 //! so any thread may make them; the free calls allocate nothing.
 //!
 //! All NaNs count as one value: the sign and payload of a NaN in an answer are free.

@@ -1,5 +1,5 @@
--- The first 30 bytes of an input decide what it asks for: a line of three decimals has 29 bytes at most, so a longer one is no request however it
--- goes on. Hence a program may read 64 bytes and leave the rest. Assumes nothing.
+-- What an input asks for is decided by its first line, and by its first 30 bytes: a line of three decimals has 29 bytes at most, so a longer one is no
+-- request however it goes on. Hence a program may stop at the newline or after 64 bytes and leave the rest. Assumes nothing.
 use mathlib.Core.Path.{_≡_, refl, sym, ap, _∙_}
 use mathlib.Core.Bool.{Bool, true, false, cond, _&&_, _||_}
 use mathlib.Core.List.{List, [], _∷_}
@@ -15,6 +15,9 @@ use Rattle.impulses.specs.declared.Decimal.{Decimal}
 use Rattle.impulses.specs.declared.Decimal.the-variants.{Value, Malformed}
 use Rattle.impulses.specs.declared.Request.the-variants.{Line}
 use Rattle.impulses.specs.Impulse.{shortDecimal, asked, lineRequest, requestOf}
+
+abbrev LineDecides : Type 0
+LineDecides = (n : ℕ) (s : List ℕ) → lineEnd s 0 ≤ n → requestOf (take n s) ≡ requestOf s
 
 abbrev PrefixDecides : Type 0
 PrefixDecides = (n : ℕ) (s : List ℕ) → 30 ≤ n → requestOf (take n s) ≡ requestOf s
@@ -102,18 +105,20 @@ module _ (a b : ℕ) where
   before-within [] = omega arith
   before-within (x ∷ s) = within-step (eqb x a || eqb x b) (countBefore a b s) (length s) (before-within s)
 
+pub line-decides : LineDecides
+unfolding requestOf lineEnd firstOf
+line-decides n s m = rw (before-short 10 10 n s (omega arith), take-take (0 + countBefore 10 10 s) n s m)
+
 module _ (n : ℕ) (s : List ℕ) (h : 30 ≤ n) where
-  decided : (t : Bool) → leb (countBefore 10 10 s) n ≡ t → requestOf (take n s) ≡ requestOf s
+  decided : (t : Bool) → leb (lineEnd s 0) n ≡ t → requestOf (take n s) ≡ requestOf s
   unfolding requestOf lineEnd firstOf
-  decided true e =
-      let m : countBefore 10 10 s ≤ n = leb-true _ n e in
-      rw (before-short 10 10 n s m, take-take (0 + countBefore 10 10 s) n s (omega arith))
+  decided true e = line-decides n s (leb-true _ n e)
   decided false e =
-      let m : n < countBefore 10 10 s = leb-false _ n e in
+      let m : n < 0 + countBefore 10 10 s = leb-false _ n e in
       let f : countBefore 10 10 (take n s) ≡ n = before-long 10 10 n s (omega arith) in
       let p : 30 ≤ length (take (0 + n) (take n s)) = simp length-take (omega (arith, before-within 10 10 s)) in
       let q : 30 ≤ length (take (0 + countBefore 10 10 s) s) = simp length-take (omega (arith, before-within 10 10 s)) in
       rw f (long-line _ p ∙ sym (long-line _ q))
 
 pub prefix-decides : PrefixDecides
-prefix-decides n s h = decided n s h (leb (countBefore 10 10 s) n) refl
+prefix-decides n s h = decided n s h (leb (lineEnd s 0) n) refl
