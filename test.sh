@@ -16,6 +16,7 @@ count() { # count WHAT COMMAND..: one test
     shift
     if "$@"; then passed=$((passed + 1)) && echo "ok: $what"; else failed=$((failed + 1)) && echo "FAILED: $what"; fi
 }
+impulse() { grep '^< ' "$1" | target/bin/impulse_cases | cmp - "$1"; } # impulse FILE: the answers to its inputs are those that it has
 command -v rt >/dev/null || { failed=1 && echo "rt, the Rattle toolchain's command, is not on PATH"; finish; }
 
 count "layout (rt fmt --check)" rt fmt --check
@@ -52,10 +53,11 @@ count "Rust wrapper" rust/test.sh
 count "comparison programs' tests" cargo test --quiet --release --offline --manifest-path compare/Cargo.toml
 count "leaves of the repository" compare/replay.sh check leaf crates/leaves/stdin
 count "scenarios of the repository" compare/replay.sh check run crates/scenarios/stdin
-vectors=../shared/vectors
+vectors=../shared/vectors/c11 # the oracle's answers with the requests up to C-11
 if [ -d "$vectors" ]; then
     for f in traps scenarios; do count "$f of the vectors beside the repository" compare/replay.sh check run "$vectors/$f.txt"; done
     count "leaves of the vectors beside the repository" compare/replay.sh check leaf "$vectors/leaves.txt"
+    count "Impulse on the vectors beside the repository" impulse "$vectors/impulse.txt"
 else
     echo "skipped: no vectors beside the repository"
 fi

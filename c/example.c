@@ -16,6 +16,7 @@ static const float notes[VOICES] = {220.0f, 261.626f, 329.628f, 391.995f};
 
 static float pitch[BLOCK * VOICES];
 static float audio[BLOCK * CHANNELS * VOICES];
+static uint32_t counts[CHANNELS * VOICES];
 static float mix[RATE * CHANNELS];
 
 static float *numbers(size_t n)
@@ -58,6 +59,15 @@ static void take(size_t block)
     for (size_t i = 0; i < BLOCK * CHANNELS; i++)
         for (size_t v = 0; v < VOICES; v++)
             mix[block * BLOCK * CHANNELS + i] += audio[i * VOICES + v];
+}
+
+/* How often a channel's voices were over the pitch ceiling in the last block. */
+static unsigned long over(size_t channel)
+{
+    unsigned long sum = 0;
+    for (size_t v = 0; v < VOICES; v++)
+        sum += counts[channel * VOICES + v];
+    return sum;
 }
 
 static void put(FILE *f, unsigned long number, int bytes)
@@ -123,6 +133,7 @@ int main(int count, char **words)
     sentivolus_bank bank;
     sentivolus_input input;
     float phase[VOICES] = {0.0f};
+    unsigned long swept = 0;
 
     bank.targets_len = sentivolus_targets_len(&setup);
     bank.records_len = sentivolus_records_len(&setup);
@@ -152,15 +163,22 @@ int main(int count, char **words)
     input.x_len = input.y_len = 0;
     for (size_t block = 0; block < BLOCKS; block++) {
         feed(block, phase);
-        must(sentivolus_bank_block(&setup, &bank, &input, audio, BLOCK * CHANNELS * VOICES), "block");
+        must(sentivolus_bank_block(&setup, &bank, &input, audio, BLOCK * CHANNELS * VOICES, counts, CHANNELS * VOICES), "block");
         take(block);
+        swept += over(0) + over(1);
     }
     printf("rendered %d blocks of %d frames: peaks %.4f left, %.4f right, checksum %08x\n", BLOCKS, BLOCK, (double)peak(0), (double)peak(1),
            checksum());
 
+    /* The sweep ends at pitch 117 and the ceiling is near 137.9. At pitch 138 the offset of 2 puts the right channel over it, the left one below. */
+    for (size_t i = 0; i < BLOCK * VOICES; i++)
+        pitch[i] = 138.0f;
+    must(sentivolus_bank_block(&setup, &bank, &input, audio, BLOCK * CHANNELS * VOICES, counts, CHANNELS * VOICES), "block");
+    printf("over the pitch ceiling: %lu times in the sweep; in a block at pitch 138 %lu times left, %lu right\n", swept, over(0), over(1));
+
     input.frames = 4097;
     printf("a block of 4097 frames is refused: %s\n",
-           sentivolus_refusal_word(sentivolus_bank_block(&setup, &bank, &input, audio, BLOCK * CHANNELS * VOICES)));
+           sentivolus_refusal_word(sentivolus_bank_block(&setup, &bank, &input, audio, BLOCK * CHANNELS * VOICES, counts, CHANNELS * VOICES)));
     free(bank.targets);
     free(bank.records);
     free(bank.delay);

@@ -31,6 +31,9 @@
  *   delay       sentivolus_ring_len(rate) a slot: the ring
  *   pitch, x, y [frame][voice]; x and y are empty in an unsteered block
  *   audio       [frame][channel][voice], filtered in place
+ *   counts      one u32 a slot, written anew by each block: how often in it a cutoff was over the pitch ceiling, 0.49 of the rate, before it was
+ *               held there. A frame counts 0 or 1; with SENTIVOLUS_COMB2 0 or 2, its two reads; with SENTIVOLUS_POLE_ZERO each running section
+ *               that was over, 0 to 8
  *   sections    160 numbers: by section, then octaves, damping, high, band, low, then the terms c, x, y, xy of each
  */
 #ifndef SENTIVOLUS_H
@@ -47,7 +50,7 @@ extern "C" {
 
 /* 10,000 x major + 100 x minor + patch. It grows with every change of a call, a struct or a layout; sentivolus_version() gives that of the
  * archive. */
-#define SENTIVOLUS_VERSION 200
+#define SENTIVOLUS_VERSION 300
 
 enum {
     SENTIVOLUS_MOST_VOICES = 16,
@@ -102,7 +105,7 @@ typedef enum sentivolus_refusal {
     SENTIVOLUS_REFUSED_VOICE = 7,     /* voice number not below voices */
     SENTIVOLUS_REFUSED_KNOB = 8,      /* NaN resonance, drive, saturation, character or mix */
     SENTIVOLUS_REFUSED_FRAMES = 9,    /* frames 0 or above 4,096 */
-    SENTIVOLUS_REFUSED_BUFFER = 10,   /* pitch, x, y or audio not exactly as long as the frames ask */
+    SENTIVOLUS_REFUSED_BUFFER = 10,   /* pitch, x, y or audio not exactly as long as the frames ask, or counts as the slots ask */
     SENTIVOLUS_REFUSED_POINT = 11     /* point number above 7 */
 } sentivolus_refusal;
 
@@ -161,7 +164,7 @@ typedef struct sentivolus_params {
 /* A block's input beside its audio. Where `steered` is set, x and y are added to the smoothed morph_x and morph_y and the sums held to 0 .. 1. */
 typedef struct sentivolus_input {
     size_t frames;      /* 1 to 4,096 */
-    const float *pitch; /* the cutoff in semitones, 69 being the reference; held to 0.49 of the rate */
+    const float *pitch; /* the cutoff in semitones, 69 being the reference; held to 0.49 of the rate, the pitch ceiling */
     size_t pitch_len;   /* frames x voices */
     bool steered;
     const float *x;
@@ -210,13 +213,13 @@ uint32_t sentivolus_start(uint32_t code, float rate, float reference, size_t voi
                           const float *targets, size_t targets_len, float *records, size_t records_len,
                           float *delay, size_t delay_len, size_t voice);
 
-/* Renders a block in place. *cursor is the cursor, and the new one afterwards; *rendered becomes the frames rendered. */
+/* Renders a block in place and writes its counts. *cursor is the cursor, and the new one afterwards; *rendered becomes the frames rendered. */
 uint32_t sentivolus_block(uint32_t code, float rate, float reference, size_t voices, size_t channels, bool clean,
                           uint32_t active, const float sections[], float gain, size_t *cursor,
                           const float *targets, size_t targets_len, float *records, size_t records_len,
                           float *delay, size_t delay_len, size_t frames, const float *pitch, size_t pitch_len, bool steered,
                           const float *x, size_t x_len, const float *y, size_t y_len, float *audio, size_t audio_len,
-                          size_t *rendered);
+                          uint32_t *counts, size_t counts_len, size_t *rendered);
 
 /* The nine default settings, in the order of sentivolus_params. */
 void sentivolus_defaults(float out[9]);
@@ -239,9 +242,10 @@ void sentivolus_point(uint32_t kind, float frequency, float q, float a, float b,
 /* A slot's ring at a rate: 1,024 to 65,536 cells, a power of two; 0 for a refused rate. */
 size_t sentivolus_ring_len(float rate);
 
-/* The cutoff of a pitch in cycles a sample, 0.49 at most, and the integrator's gain tan(pi x that). reference_over_rate is the
- * setup's reference / rate. */
+/* The cutoff of a pitch in cycles a sample, 0.49 at most; whether it was greater before that cap (equal is not, NaN is not); and the
+ * integrator's gain tan(pi x the cutoff). reference_over_rate is the setup's reference / rate. */
 float sentivolus_ratio_of(float pitch, float reference_over_rate);
+bool sentivolus_over(float pitch, float reference_over_rate);
 float sentivolus_gain(float pitch, float reference_over_rate);
 
 /* A read of a slot's ring, `delay` samples back from the cursor, held to 2 .. len - 3: 0 where len is no power of two from 1,024 to 65,536 or the
@@ -358,6 +362,11 @@ static inline size_t sentivolus_delay_len(const sentivolus_setup *s)
     return sentivolus_setup_check(s) ? 0 : ring * s->voices * s->channels;
 }
 
+static inline size_t sentivolus_counts_len(const sentivolus_setup *s)
+{
+    return sentivolus_setup_check(s) ? 0 : s->voices * s->channels;
+}
+
 /* Opens a bank on the lent lists: every voice at the defaults and started, cursor 0. Refusals 1 to 6. */
 static inline sentivolus_refusal sentivolus_bank_open(const sentivolus_setup *s, sentivolus_bank *b)
 {
@@ -389,15 +398,15 @@ static inline sentivolus_refusal sentivolus_bank_start(const sentivolus_setup *s
     return (sentivolus_refusal)answer;
 }
 
-/* Filters a block of audio in place, frames x channels x voices samples, and moves the bank's cursor. Refusals 1 to 6, 9 and 10. An accepted
- * block renders all its frames. */
+/* Filters a block of audio in place, frames x channels x voices samples; moves the bank's cursor; writes to counts, channels x voices numbers, how
+ * often each slot was over the pitch ceiling. Refusals 1 to 6, 9 and 10. An accepted block renders all its frames. */
 static inline sentivolus_refusal sentivolus_bank_block(const sentivolus_setup *s, sentivolus_bank *b, const sentivolus_input *in,
-                                                       float *audio, size_t audio_len)
+                                                       float *audio, size_t audio_len, uint32_t *counts, size_t counts_len)
 {
     size_t cursor = b->cursor, rendered = 0;
     unsigned before = sentivolus_floats_enter();
     uint32_t answer = sentivolus_block(SENTIVOLUS_SETUP_OF(s), &cursor, SENTIVOLUS_LISTS_OF(b), in->frames, in->pitch, in->pitch_len,
-                                       in->steered, in->x, in->x_len, in->y, in->y_len, audio, audio_len, &rendered);
+                                       in->steered, in->x, in->x_len, in->y, in->y_len, audio, audio_len, counts, counts_len, &rendered);
     sentivolus_floats_leave(before);
     b->cursor = cursor;
     return (sentivolus_refusal)answer;

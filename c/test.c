@@ -20,9 +20,10 @@ static void check(int holds, const char *what, int which)
     }
 }
 
-/* A bank with the lists of four slots at 48,000 Hz, and a block's audio. */
+/* A bank with the lists of four slots at 48,000 Hz, a block's audio, and its counts with one more after them. */
 typedef struct session {
     float targets[SENTIVOLUS_TARGETS * VOICES], records[SENTIVOLUS_RECORD * SLOTS], delay[RING * SLOTS], audio[FRAMES * SLOTS];
+    uint32_t counts[SLOTS + 1];
     sentivolus_setup setup;
     sentivolus_bank bank;
     sentivolus_input input;
@@ -42,7 +43,7 @@ static sentivolus_design bells(void)
     return d;
 }
 
-/* Lists full of 0.5; noise, loud for voice 0 and about the smallest normal number for voice 1. */
+/* Lists full of 0.5, counts of 7; noise, loud for voice 0 and about the smallest normal number for voice 1. */
 static void make(session *t, uint32_t code)
 {
     float *lists[] = {t->targets, t->records, t->delay};
@@ -51,6 +52,8 @@ static void make(session *t, uint32_t code)
     for (int l = 0; l < 3; l++)
         for (size_t i = 0; i < lengths[l]; i++)
             lists[l][i] = 0.5f;
+    for (int i = 0; i <= SLOTS; i++)
+        t->counts[i] = 7;
     for (int i = 0; i < FRAMES * SLOTS; i++) {
         noise = 1664525u * noise + 1013904223u;
         t->audio[i] = ldexpf((float)(int32_t)noise, i % VOICES == 0 ? -32 : -32 - 124);
@@ -69,6 +72,12 @@ static void make(session *t, uint32_t code)
     t->input.steered = true;
     t->input.x = t->input.y = pitch;
     t->input.x_len = t->input.y_len = FRAMES * VOICES;
+}
+
+/* The session's block with its whole audio and as many counts. */
+static sentivolus_refusal render(session *t, size_t counts)
+{
+    return sentivolus_bank_block(&t->setup, &t->bank, &t->input, t->audio, FRAMES * SLOTS, t->counts, counts);
 }
 
 static sentivolus_params loud(void)
@@ -95,7 +104,7 @@ static void run(session *t, uint32_t code, unsigned mxcsr)
     sentivolus_refusal opened = sentivolus_bank_open(&t->setup, &t->bank);
     sentivolus_refusal set = sentivolus_bank_set(&t->setup, &t->bank, 1, &params);
     sentivolus_refusal started = sentivolus_bank_start(&t->setup, &t->bank, 1);
-    sentivolus_refusal rendered = sentivolus_bank_block(&t->setup, &t->bank, &t->input, t->audio, FRAMES * SLOTS);
+    sentivolus_refusal rendered = render(t, SLOTS);
     unsigned after = _mm_getcsr();
     _mm_setcsr(before);
     check((after & ~SENTIVOLUS_MXCSR_FLAGS) == (mxcsr & ~SENTIVOLUS_MXCSR_FLAGS), "the caller's MXCSR comes back", (int)mxcsr);
@@ -106,6 +115,7 @@ static int same(const session *a, const session *b)
 {
     return !memcmp(a->targets, b->targets, sizeof a->targets) && !memcmp(a->records, b->records, sizeof a->records) &&
            !memcmp(a->delay, b->delay, sizeof a->delay) && !memcmp(a->audio, b->audio, sizeof a->audio) &&
+           !memcmp(a->counts, b->counts, sizeof a->counts) &&
            !memcmp(a->setup.table.sections, b->setup.table.sections, sizeof a->setup.table.sections) && a->bank.cursor == b->bank.cursor;
 }
 
@@ -123,7 +133,7 @@ static void raw_block(session *t, uint32_t code, unsigned mxcsr)
     _mm_setcsr(mxcsr);
     sentivolus_block(s->code, s->rate, s->reference, s->voices, s->channels, s->clean, s->table.active, s->table.sections, s->table.gain, &cursor,
                      b->targets, b->targets_len, b->records, b->records_len, b->delay, b->delay_len, FRAMES, pitch, FRAMES * VOICES, false,
-                     NULL, 0, NULL, 0, t->audio, FRAMES * SLOTS, &rendered);
+                     NULL, 0, NULL, 0, t->audio, FRAMES * SLOTS, t->counts, SLOTS, &rendered);
     _mm_setcsr(before);
 }
 
@@ -170,24 +180,32 @@ static void refusals(void)
         check(sentivolus_setup_check(&t->setup) == n, "the setup's refusal", (int)n);
         check(sentivolus_bank_open(&t->setup, &t->bank) == n && t->bank.cursor == 99, "open's refusal", (int)n);
         check(sentivolus_targets_len(&t->setup) + sentivolus_records_len(&t->setup) + sentivolus_delay_len(&t->setup) == 0, "no lengths", (int)n);
+        check(sentivolus_counts_len(&t->setup) == 0, "no counts", (int)n);
+        check(render(t, SLOTS) == n && t->counts[0] == 7, "block's refusal", (int)n);
     }
     make(t, 9);
     check(sentivolus_setup_check(&t->setup) == SENTIVOLUS_ACCEPTED, "a right setup", 0);
-    check(sentivolus_targets_len(&t->setup) == 20 && sentivolus_records_len(&t->setup) == 120 && sentivolus_delay_len(&t->setup) == 4 * RING,
-          "its lengths", 0);
+    check(sentivolus_targets_len(&t->setup) == 20 && sentivolus_records_len(&t->setup) == 120 && sentivolus_delay_len(&t->setup) == 4 * RING &&
+          sentivolus_counts_len(&t->setup) == SLOTS, "its lengths", 0);
     t->bank.delay_len--;
     check(sentivolus_bank_open(&t->setup, &t->bank) == SENTIVOLUS_REFUSED_STORE, "a short list", 6);
+    check(render(t, SLOTS) == SENTIVOLUS_REFUSED_STORE, "a block's short list", 6);
     t->bank.delay_len++;
     check(sentivolus_bank_open(&t->setup, &none) == SENTIVOLUS_REFUSED_STORE, "empty lists at NULL", 6);
     check(sentivolus_bank_start(&t->setup, &t->bank, VOICES) == SENTIVOLUS_REFUSED_VOICE, "a voice too many", 7);
     p.mix = NAN;
     check(sentivolus_bank_set(&t->setup, &t->bank, 0, &p) == SENTIVOLUS_REFUSED_KNOB, "a NaN mix", 8);
     t->input.frames = 0;
-    check(sentivolus_bank_block(&t->setup, &t->bank, &t->input, t->audio, FRAMES * SLOTS) == SENTIVOLUS_REFUSED_FRAMES, "no frames", 9);
+    check(render(t, 0) == SENTIVOLUS_REFUSED_FRAMES, "no frames", 9);
     t->input.frames = FRAMES;
+    for (size_t n = 0; n <= SLOTS + 1; n++)
+        if (n != SLOTS)
+            check(render(t, n) == SENTIVOLUS_REFUSED_BUFFER, "counts of a wrong length", (int)n);
+    check(sentivolus_bank_block(&t->setup, &t->bank, &t->input, t->audio, FRAMES * SLOTS, NULL, 0) == SENTIVOLUS_REFUSED_BUFFER, "no counts", 10);
     t->input.steered = false;
-    check(sentivolus_bank_block(&t->setup, &t->bank, &t->input, t->audio, FRAMES * SLOTS) == SENTIVOLUS_REFUSED_BUFFER, "x unsteered", 10);
-    check(t->bank.cursor == 99 && t->targets[0] == 0.5f && t->records[0] == 0.5f && t->delay[0] == 0.5f, "a refusal changes nothing", 0);
+    check(render(t, SLOTS) == SENTIVOLUS_REFUSED_BUFFER, "x unsteered", 10);
+    make(&usual, 9);
+    check(same(t, &usual), "a refusal changes nothing", 0);
     check(sentivolus_design_section(&design, 8, 0, 0, out) == SENTIVOLUS_REFUSED_POINT && out[4] == 5, "a ninth point", 11);
     check(sentivolus_design_section(&design, 7, 0, 0, out) == SENTIVOLUS_ACCEPTED && out[2] == 1, "an eighth point", 0);
 }
@@ -211,9 +229,50 @@ static void arguments(void)
     t->input.steered = false;
     t->input.x = t->input.y = NULL;
     t->input.x_len = t->input.y_len = 0;
-    check(!sentivolus_bank_block(&t->setup, &t->bank, &t->input, t->audio, FRAMES * SLOTS) && t->bank.cursor == FRAMES, "the cursor moves", 0);
+    check(!render(t, SLOTS) && t->bank.cursor == FRAMES, "the cursor moves", 0);
     t->setup.table = sentivolus_design_table(&design);
     check(t->setup.table.active == 8 && t->setup.table.gain == 1, "a design's table", 0);
+}
+
+/* Whether the counts are these, voice 0's on both channels, and nothing is written after them. */
+static int counted(const session *t, uint32_t voice_0, uint32_t left, uint32_t right)
+{
+    const uint32_t wanted[SLOTS + 1] = {voice_0, left, voice_0, right, 7};
+    return !memcmp(t->counts, wanted, sizeof wanted);
+}
+
+/* With a reference of 4,400 Hz the pitch ceiling is near 98. Voice 0 is over it for 100 frames. Voice 1 has pitch 110 and an offset of 20: on the left
+ * it is below, but for the highest of eight sections, on the right over. */
+static void meter(void)
+{
+    static float pitches[FRAMES * VOICES];
+    sentivolus_design design = bells();
+    sentivolus_params p = sentivolus_default_params();
+    session *t = &other;
+    p.stereo_offset = 20;
+    for (uint32_t code = 1; code <= 12; code++) {
+        uint32_t each = code == SENTIVOLUS_POLE_ZERO ? 8 : code == SENTIVOLUS_COMB2 ? 2 : 1;
+        make(t, code);
+        for (size_t f = 0; f < FRAMES; f++) {
+            pitches[f * VOICES] = f < 100 ? 200.0f : 20.0f;
+            pitches[f * VOICES + 1] = 110.0f;
+        }
+        t->setup.reference = 4400;
+        t->setup.table = sentivolus_design_table(&design);
+        t->input.pitch = pitches;
+        t->input.steered = false;
+        t->input.x_len = t->input.y_len = 0;
+        check(!sentivolus_bank_open(&t->setup, &t->bank) && !sentivolus_bank_set(&t->setup, &t->bank, 1, &p) &&
+              !sentivolus_bank_start(&t->setup, &t->bank, 1), "a metered bank", (int)code);
+        check(!render(t, SLOTS) && counted(t, 100 * each, code == SENTIVOLUS_POLE_ZERO ? FRAMES : 0, FRAMES * each), "counts", (int)code);
+        for (size_t i = 0; i < FRAMES * VOICES; i++)
+            pitches[i] = 20.0f;
+        check(!render(t, SLOTS) && counted(t, 0, 0, 0), "counts are written, not added", (int)code);
+    }
+    float cap = sentivolus_ratio_of(1000, 1);
+    check(sentivolus_over(138, 440.0f / 48000) && !sentivolus_over(137, 440.0f / 48000), "a pitch over its ceiling", 0);
+    check(!sentivolus_over(69, cap) && sentivolus_over(69, nextafterf(cap, 1)), "the ceiling itself is not over", 0);
+    check(!sentivolus_over(69, NAN) && sentivolus_over(69, INFINITY), "nor is a NaN", 0);
 }
 
 /* ---- the stack: what the calls leave untouched of a painted one */
@@ -237,7 +296,7 @@ static void *sitting(void *code)
         sentivolus_bank_open(&t->setup, &t->bank);
         sentivolus_bank_set(&t->setup, &t->bank, 1, &p);
         sentivolus_bank_start(&t->setup, &t->bank, 1);
-        sentivolus_bank_block(&t->setup, &t->bank, &t->input, t->audio, FRAMES * SLOTS);
+        render(t, SLOTS);
     }
     return NULL;
 }
@@ -273,10 +332,11 @@ static void stacks(void)
 int main(void)
 {
     for (size_t i = 0; i < FRAMES * VOICES; i++)
-        pitch[i] = 60.0f + (float)(i % 31);
+        pitch[i] = 60.0f + 3.0f * (float)(i % 31);
     float_environments();
     refusals();
     arguments();
+    meter();
     stacks();
     printf("c: %d checks, %d failed\n", checks, failures);
     return failures != 0;

@@ -5,7 +5,7 @@ set -eu
 usage="usage: bench.sh [silence] [--oracle FOLDER] [--help]
   silence          the table of silence alone
   --oracle FOLDER  the folder that holds assemble.py (../shared/oracle beside the repository)"
-tables=()
+tables=() oracle=$timed
 while [ $# -gt 0 ]; do
     case $1 in
         --help) echo "$usage" && exit 0 ;;

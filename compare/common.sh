@@ -1,8 +1,9 @@
 #!/usr/bin/env bash
 # Sourced by the scripts beside it.
 here=$(cd "$(dirname "${BASH_SOURCE[0]}")" && pwd)
-oracle=$here/../../shared/oracle        # holds assemble.py
-rust=../docs/src/crates/dsp/src/filter  # from there: the published Rust that it reads
+oracle=$here/../../shared/oracle-requests  # holds assemble.py: the Rust with document 02's requests, to compare with
+timed=$here/../../shared/oracle            # the same without them, to time: what they need costs a few instructions a tick
+rust=../docs/src/crates/dsp/src/filter     # from either: the published Rust that it reads
 
 # wrong SENTENCE: exit status 2.
 wrong() {

@@ -1,6 +1,6 @@
 #!/usr/bin/env bash
-# oracle.sh FOLDER: assembles the published Rust with document 01's stand-ins below compare/target/oracle and builds it, where FOLDER's files or the
-# Rust's are others than at the last build.
+# oracle.sh FOLDER: assembles the published Rust with document 01's stand-ins and document 02's requests below compare/target/oracle and builds it,
+# where FOLDER's files or the Rust's are others than at the last build.
 set -eu
 . "$(dirname "$0")/common.sh"
 [ $# -eq 1 ] || wrong "usage: oracle.sh FOLDER"

@@ -7,7 +7,8 @@ unsafe extern "C" {
     fn sentivolus_block(code: u32, rate: f32, reference: f32, voices: usize, channels: usize, clean: bool,
         active: u32, sections: *const f32, gain: f32, cursor: *mut usize, targets: *const f32, targets_len: usize,
         records: *mut f32, records_len: usize, delay: *mut f32, delay_len: usize, frames: usize, pitch: *const f32, pitch_len: usize,
-        steered: bool, x: *const f32, x_len: usize, y: *const f32, y_len: usize, audio: *mut f32, audio_len: usize, rendered: *mut usize) -> u32;
+        steered: bool, x: *const f32, x_len: usize, y: *const f32, y_len: usize, audio: *mut f32, audio_len: usize,
+        counts: *mut u32, counts_len: usize, rendered: *mut usize) -> u32;
     fn sentivolus_open(code: u32, rate: f32, reference: f32, voices: usize, channels: usize, clean: bool, active: u32, sections: *const f32,
         gain: f32, targets: *mut f32, targets_len: usize, records: *mut f32, records_len: usize, delay: *mut f32, delay_len: usize) -> u32;
     fn sentivolus_start(code: u32, rate: f32, reference: f32, voices: usize, channels: usize, clean: bool, active: u32, sections: *const f32,
@@ -102,7 +103,7 @@ fn case(code: u32, rate: f32, voices: usize, channels: usize, frames: usize, mov
 }
 
 /// A block of the proved library's.
-fn block(e: &mut Engine, sections: &[f32], pitch: &[f32], audio: &mut [f32], frames: usize) {
+fn block(e: &mut Engine, sections: &[f32], pitch: &[f32], audio: &mut [f32], counts: &mut [u32], frames: usize) {
     let s = e.setup;
     let mut done = 0usize;
     let none = std::ptr::NonNull::dangling().as_ptr();
@@ -110,18 +111,21 @@ fn block(e: &mut Engine, sections: &[f32], pitch: &[f32], audio: &mut [f32], fra
         sentivolus_block(s.code, f(s.rate), f(s.reference), s.voices as usize, s.channels as usize, false,
             e.table.active as u32, sections.as_ptr(), e.table.gain, &mut e.cursor, e.t.as_ptr(), e.t.len(),
             e.r.as_mut_ptr(), e.r.len(), e.d.as_mut_ptr(), e.d.len(), frames, pitch.as_ptr(), pitch.len(),
-            false, none, 0, none, 0, audio.as_mut_ptr(), audio.len(), &mut done)
+            false, none, 0, none, 0, audio.as_mut_ptr(), audio.len(), counts.as_mut_ptr(), counts.len(), &mut done)
     };
     assert_eq!((refused, done), (0, frames));
 }
 
 fn sections_of(e: &Engine) -> Vec<f32> { e.table.sections.iter().flatten().flatten().copied().collect() }
 
+fn counts_of(e: &Engine) -> Vec<u32> { vec![0; (e.setup.voices * e.setup.channels) as usize] }
+
 /// Best of several runs, the two taking turns. With `anew` each run starts from the case's state, which is put back outside of the time taken.
 fn measure_from(c: &Case, millis: u128, anew: bool) -> (f64, f64) {
     let per = c.audio.len();
     let reps = (16_000 / per).max(1);
     let sections = sections_of(&c.engine);
+    let mut counts = counts_of(&c.engine);
     let mut ours = c.engine.clone();
     let mut bank = c.engine.clone().bank();
     let mut audio = c.audio.clone();
@@ -133,7 +137,7 @@ fn measure_from(c: &Case, millis: u128, anew: bool) -> (f64, f64) {
         for _ in 0..reps { audio.copy_from_slice(&c.audio); extended::dispatch(&mut bank, None, &c.pitch, None, &mut audio, c.frames); }
         best.1 = best.1.min(t.elapsed().as_nanos() as f64 / (reps * per) as f64);
         let t = Instant::now();
-        for _ in 0..reps { audio.copy_from_slice(&c.audio); block(&mut ours, &sections, &c.pitch, &mut audio, c.frames); }
+        for _ in 0..reps { audio.copy_from_slice(&c.audio); block(&mut ours, &sections, &c.pitch, &mut audio, &mut counts, c.frames); }
         best.0 = best.0.min(t.elapsed().as_nanos() as f64 / (reps * per) as f64);
     }
     assert!(audio.iter().all(|x| x.is_finite()));
@@ -146,11 +150,12 @@ fn measure(c: &Case, millis: u128) -> (f64, f64) { measure_from(c, millis, false
 /// after ten: a tail does not reach zero but goes on in subnormal states.
 fn decayed(mut c: Case) -> Case {
     let sections = sections_of(&c.engine);
+    let mut counts = counts_of(&c.engine);
     let second = f(c.engine.setup.rate) as usize / c.frames;
     let mut audio = c.audio.clone();
     for k in 0..6 * second {
         if k < second { audio.copy_from_slice(&c.audio); } else { audio.fill(0.0); }
-        block(&mut c.engine, &sections, &c.pitch, &mut audio, c.frames);
+        block(&mut c.engine, &sections, &c.pitch, &mut audio, &mut counts, c.frames);
     }
     c.audio.fill(0.0);
     c

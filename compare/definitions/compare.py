@@ -54,6 +54,8 @@ KERNEL = "kernels.Kernels.kernelOf"
 CONSTANTS = "run.Run.constantsOf"
 SIGN = "run.Run.signOf"
 TICK = "run.Run.tickWith"
+LIMIT = "filter.Filter.ratioLimit"
+COUNT = "kernels.Kernels.overCount"
 POINT_SECTION = "points.Points.sectionOf"
 VALUES = "points.Points.values"
 DEFAULT_STATE = "points.Points.defaultState"
@@ -64,6 +66,7 @@ DESIGN_SECTION = "pole_zero.PoleZero.sectionValues"
 PARAMETERS = {"p": "settings", "k": "constants", "st": "steering", "rec": "numbers"}
 KERNEL_FIELDS = ("out", "state", "ring")
 TICK_FIELDS = ("out", "rec", "ring")
+TICK_COUNT = "over"
 
 # fields of CONSTANTS, and the variables of Run::go that they are
 CONSTANT_FIELDS = (("alpha", "alpha"), ("clip_in", "clip_in"), ("clip_out", "clip_out"), ("smooth_samples", "smooth_samples"),
@@ -75,11 +78,23 @@ def by_name(name):
     return lambda *parts: Tree(name, *parts)
 
 
+class Marks(tuple):
+    """A count, as the conditions that are counted."""
+
+    def __add__(self, other):
+        return Marks((*self, *other))
+
+    def __radd__(self, none):
+        assert none == 0
+        return self
+
+
 # definitions compared by name alone: the Rust's side of each is a method of f32 or of Lines, in rust.py
 OPAQUE = {
     "lane.Lane.maxOf": by_name("max"), "lane.Lane.minOf": by_name("min"), "lane.Lane.clampOf": by_name("clamp"),
     "sqrt.Root.rootOf": by_name("root"), "log2.Log2.logOf": by_name("log2"),
     "lines.Lines.ringRead": by_name("ringRead"), "lines.Lines.ringWrite": by_name("ringWrite"),
+    "filter.Filter.once": lambda over: Marks((over,)),
 }
 
 # the structure codes
@@ -157,6 +172,17 @@ def flat(value):
     if isinstance(value, (list, tuple)):
         return [number for part in value for number in flat(part)]
     return [value]
+
+
+def parts_of(value):
+    """Every tree within a value, each once."""
+    seen, todo = set(), flat(value)
+    while todo:
+        tree = todo.pop()
+        if isinstance(tree, Tree) and tree not in seen:
+            seen.add(tree)
+            todo.extend(flat(tree.parts))
+    return seen
 
 
 def parting(a, b):
@@ -262,7 +288,17 @@ class Comparison:
         ours = self.kernel_value(given)
         theirs = {"T": CODES[code], "lines": lines, "state": list(given["state"]), "x": given["x"], "pitch": given["pitch"], "p": settings}
         out = self.rust.evaluate("T::tick(&mut lines, &mut state, x, pitch, &p)", theirs)
-        self.same("kernel %d at %d active" % (code, active), ours, [out, theirs["state"], lines["buf"][0]])
+        left = [out, theirs["state"], lines["buf"][0]]
+        self.same("kernel %d at %d active" % (code, active), ours, left)
+        self.judged("kernel %d at %d active" % (code, active), code, active, self.definitions.call(COUNT, given, PARAMETERS), left)
+
+    def judged(self, what, code, active, count, left):
+        """Document 02, C-11: the ratios judged are those that the Rust caps: once a section, by Comb2 twice, else once."""
+        marks, limit = count or (), self.definitions.value(LIMIT)
+        self.same("how many ratios are judged by " + what, len(marks), {8: min(active, 8), 9: 2}.get(code, 1))
+        ours = {mark.parts[1] if mark.name == "lt" and mark.parts[0] is limit else mark for mark in marks}
+        theirs = {tree.parts[0] for tree in parts_of(left) if tree.name == "min" and tree.parts[1] is limit}
+        self.same("the ratios judged by " + what, sorted(ours, key=id), sorted(theirs, key=id))
 
     def blocks(self):
         """A block of one frame, of every code, clean or not, steered or not, mono and stereo."""
@@ -293,8 +329,10 @@ class Comparison:
                      "sign": self.definitions.value(SIGN)(channels, channel)}
             tick = self.definitions.call(TICK, given, PARAMETERS)
             kept = [row[i] for part in ("smoothed", "morph_smoothed", "state") for row in bank[part]]
-            self.same("tick of %d, clean %s, steered %s, channel %d of %d, voice %d" % (code, clean, steered, channel, channels, voice),
-                      [tick[field] for field in TICK_FIELDS], [run["audio"][i], kept, bank["delay"][i]])
+            what = "%d, clean %s, steered %s, channel %d of %d, voice %d" % (code, clean, steered, channel, channels, voice)
+            left = [run["audio"][i], kept, bank["delay"][i]]
+            self.same("tick of " + what, [tick[field] for field in TICK_FIELDS], left)
+            self.judged("the tick of " + what, code, ours["active"], tick[TICK_COUNT], left)
 
     def points(self):
         """A point's section, of each kind; the default state's frequencies and Qs."""

@@ -21,6 +21,9 @@ SLIPS = (
     ("a hold dropped", "extended/specs/Extended.antt", r"minOf \(maxOf x zero\) one", "maxOf x zero"),
     ("another code smoothed", "extended/specs/Extended.antt", r"leb code 6", "leb code 7"),
     ("an infinite level kept", "filter/specs/Voice.antt", r"levelOf \(inf s\) = zero", "levelOf (inf s) = inf s"),
+    ("the voice's pitch judged in DjSweep", "sweeps/specs/Sweeps.antt", r"overOf \(djPitch .*\) \(p", "overOf pitch (p"),
+    ("one of Comb2's reads judged", "kernels/specs/Kernels.antt", r"once \(combOver pitch p\) \+ ", ""),
+    ("the pitch before the lag judged", "run/specs/Run.antt", r"overCount code table \(record \{ 0 = after", "overCount code table (record { 0 = at"),
     ("two settings' places swapped", "filter/specs/Voice.antt", r"LEVEL = 6", "LEVEL = 5"),
 )
 

@@ -8,7 +8,7 @@ use sentivolus::{Design, VoiceParams};
 /// Reads a leaf's inputs and gives its answer.
 type Leaf = fn(&mut Words, &[u8; 1024]) -> Result<String, Wrong>;
 
-const LEAVES: [(&str, Leaf); 19] = [
+const LEAVES: [(&str, Leaf); 20] = [
     ("max", |w, _| w.floats().map(|[a, b]| text(&[sentivolus::max(a, b)]))),
     ("min", |w, _| w.floats().map(|[a, b]| text(&[sentivolus::min(a, b)]))),
     ("exp2", |w, _| w.float().map(|a| text(&[sentivolus::exp2(a)]))),
@@ -21,6 +21,7 @@ const LEAVES: [(&str, Leaf); 19] = [
     ("hermite", |w, _| w.floats().map(|[a, b, c, d, e]| text(&[sentivolus::hermite(a, b, c, d, e)]))),
     ("ring_len", |w, _| w.float().map(|a| format!(" {}", sentivolus::ring_len(a)))),
     ("ratio_of", |w, _| w.floats().map(|[a, b]| text(&[sentivolus::ratio_of(a, b)]))),
+    ("over", |w, _| w.floats().map(|[a, b]| format!(" {}", u8::from(sentivolus::over(a, b))))),
     ("gain", |w, _| w.floats().map(|[a, b]| text(&[sentivolus::gain(a, b)]))),
     ("svf", |w, _| w.floats().map(|[a, b, c, d, e]| text(&sentivolus::svf(a, b, c, d, e)))),
     ("targets_of", |w, _| w.floats().map(|p| text(&sentivolus::targets_of(&VoiceParams::from_array(p))))),

@@ -12,14 +12,18 @@ pub struct Oracle {
     pub rows: usize,
 }
 
-/// How many random inputs of a leaf `leafgen` is asked for.
+/// The requests in force, by the last one's number: the program's STAGE. The files that it writes then are those that this replays.
+const STAGE: &str = "11";
+
+/// How many random inputs of a leaf `leafgen` is asked for, and the rows that it then writes at this stage.
 const INPUTS: &str = "240";
+pub const ROWS: usize = 5978;
 
 impl Oracle {
     /// What the program writes, where it ends well; its own errors go to `errors`.
     fn output(&self, args: &[&str], input: Option<&str>, errors: Stdio) -> Result<String, String> {
         let said = |what: String| format!("{} {}: {what}", self.program, args.join(" "));
-        let mut child = Command::new(&self.program).args(args)
+        let mut child = Command::new(&self.program).args(args).env("STAGE", STAGE)
             .stdin(if input.is_some() { Stdio::piped() } else { Stdio::null() }).stdout(Stdio::piped()).stderr(errors)
             .spawn().map_err(|e| said(e.to_string()))?;
         if let (Some(text), Some(mut pipe)) = (input, child.stdin.take()) {

@@ -1,6 +1,6 @@
 //! Random scenarios at scale: the oracle's program writes them with the Rust's answers, the proved library recomputes them.
 
-use crate::oracle::Oracle;
+use crate::oracle::{Oracle, ROWS};
 use crate::replay::difference;
 use crate::words::{decimal, Lines};
 use crate::{leaf, scenario};
@@ -8,11 +8,12 @@ use std::time::{Instant, SystemTime, UNIX_EPOCH};
 
 pub const HELP: &str = "\
 usage: compare scale ORACLE [--seed N] [--samples N] [--scenarios N] [--rows N]
-random scenarios and leaves of the oracle's program ORACLE, which is asked for `gen SEED N` and `leafgen SEED N`, until enough is compared
+random scenarios and leaves of the oracle's program ORACLE, which is asked for `gen SEED N` and `leafgen SEED N`, with STAGE in its environment, until
+enough is compared
   --seed N       the first file's seed (from the clock where it is not given); the others follow from it
   --samples N    voice-samples to compare (10000000)
   --scenarios N  scenarios to ask for in a file (396); the last has to end with a dump
-  --rows N       rows that a leaves file has (5511)
+  --rows N       rows that a leaves file has (5978)
 Exit status 1 where an answer differs, or the oracle fails or stops early.";
 
 pub struct Options {
@@ -24,7 +25,7 @@ pub struct Options {
 impl Options {
     pub fn of(args: &[&str]) -> Result<Options, String> {
         let seed = SystemTime::now().duration_since(UNIX_EPOCH).map_or(1, |d| d.as_nanos() as u64 | 1);
-        let mut o = Options { oracle: Oracle { program: String::new(), scenarios: 396, rows: 5511 }, seed, samples: 10_000_000 };
+        let mut o = Options { oracle: Oracle { program: String::new(), scenarios: 396, rows: ROWS }, seed, samples: 10_000_000 };
         let mut args = args.iter().copied();
         while let Some(arg) = args.next() {
             match arg {
@@ -58,13 +59,19 @@ fn scenarios(text: &str) -> Vec<String> {
 /// Whether ours are other answers than these. A text that cannot be read has none.
 fn differs(theirs: &str) -> bool { scenario::replay(theirs).is_ok_and(|ours| ours.text != theirs) }
 
-/// The calls of a scenario as units: a block with its four lists is one.
+/// The calls of a scenario as units: a block with its four lists is one. A `counts` line is for the next block alone, wherever before it the line
+/// stands, and comes to that block's unit.
 fn units(text: &str) -> Vec<String> {
     let mut out: Vec<String> = vec![];
+    let mut counts = String::new();
     for w in Lines::of(text).filter(|w| !scenario::is_answer(w.line)) {
-        let list_of_block = matches!(w.line.split(' ').next(), Some("p" | "x" | "y" | "a"));
-        if !list_of_block { out.push(String::new()); }
-        if let Some(unit) = out.last_mut() { *unit += &format!("{}\n", w.line); }
+        let line = format!("{}\n", w.line);
+        match w.line.split(' ').next() {
+            Some("counts") => counts = line,
+            Some("block" | "blockh") => out.push(std::mem::take(&mut counts) + &line),
+            Some("p" | "x" | "y" | "a") => if let Some(unit) = out.last_mut() { *unit += &line; }
+            _ => out.push(line),
+        }
     }
     out
 }

@@ -5,7 +5,13 @@ use crate::replay::Replayed;
 use crate::words::{quoted, Lines, Words, Wrong};
 use sentivolus::{Refusal, Setup, Table, VoiceParams};
 
-/// The lent lists, the setup handed to the next call, and the cursor.
+/// What each of a block's counts holds before.
+const BEFORE: u32 = 7;
+
+/// The most slots of a bank. A setup that asks for more is refused before counts are measured.
+const SLOTS: usize = 32;
+
+/// The lent lists, the setup handed to the next call, the cursor, and the lengths that `lend` and `counts` lines ask for.
 struct Bank {
     setup: Setup,
     targets: Vec<f32>,
@@ -13,6 +19,7 @@ struct Bank {
     delay: Vec<f32>,
     cursor: usize,
     lend: Option<[usize; 3]>,
+    counts: Option<usize>,
 }
 
 /// The lists as a call is lent them: the bank's own, or copies at the lengths of a `lend` line.
@@ -33,7 +40,7 @@ struct Asked {
 impl Bank {
     fn new() -> Self {
         let setup = Setup { code: 0, rate: 0.0, reference: 0.0, voices: 0, channels: 0, clean: false, table: Table::default() };
-        Bank { setup, targets: vec![], records: vec![], delay: vec![], cursor: 0, lend: None }
+        Bank { setup, targets: vec![], records: vec![], delay: vec![], cursor: 0, lend: None, counts: None }
     }
 
     fn take_setup(&mut self, w: &mut Words) -> Result<(), Wrong> {
@@ -95,18 +102,22 @@ impl Bank {
     /// The answer to a block, and how many voice-samples it rendered.
     fn block(&mut self, asked: &Asked, [p, x, y, a]: &[Vec<f32>; 4]) -> (String, u64) {
         let mut audio = a.clone();
+        let slots = self.setup.voices.saturating_mul(self.setup.channels).min(SLOTS);
+        let mut counts = vec![BEFORE; self.counts.take().unwrap_or(slots)];
         let mut l = self.lent();
         let given = sentivolus::block_marked(&self.setup, self.cursor, &l.targets, &mut l.records, &mut l.delay,
-            asked.frames, p, asked.steered, x, y, &mut audio);
+            asked.frames, p, asked.steered, x, y, &mut audio, &mut counts);
         self.back(l);
         match given {
             Err(r) => {
-                let same = audio.iter().zip(a).all(|(v, b)| v.to_bits() == b.to_bits());
-                (format!("= refused {}{}\n", number(r), if same { "" } else { " and the audio is changed" }), 0)
+                let heard = if audio.iter().zip(a).all(|(v, b)| v.to_bits() == b.to_bits()) { "" } else { " and the audio is changed" };
+                let counted = if counts.iter().all(|&n| n == BEFORE) { "" } else { " and the counts are changed" };
+                (format!("= refused {}{heard}{counted}\n", number(r)), 0)
             }
             Ok((cursor, rendered)) => {
                 self.cursor = cursor;
-                (format!("= ok {cursor} {rendered}\n{}", samples(asked.digest, &audio)), (rendered * self.setup.voices * self.setup.channels) as u64)
+                let counted: String = counts.iter().map(|n| format!(" {n}")).collect();
+                (format!("= ok {cursor} {rendered}\n{}c{counted}\n", samples(asked.digest, &audio)), (rendered * slots) as u64)
             }
         }
     }
@@ -169,7 +180,7 @@ fn read_block(w: &mut Words, lines: &mut Lines, digest: bool, out: &mut Replayed
 }
 
 /// Lines of answers, by their first word.
-pub fn is_answer(line: &str) -> bool { matches!(line.split(' ').next(), Some("=" | "o" | "h" | "t" | "r" | "d")) }
+pub fn is_answer(line: &str) -> bool { matches!(line.split(' ').next(), Some("=" | "o" | "h" | "c" | "t" | "r" | "d")) }
 
 pub fn replay(text: &str) -> Result<Replayed, Wrong> {
     let mut out = Replayed::default();
@@ -185,6 +196,7 @@ pub fn replay(text: &str) -> Result<Replayed, Wrong> {
             "poke" => bank.poke(&mut w)?,
             "setup" => { bank.take_setup(&mut w)?; w.end()?; }
             "lend" => { bank.lend = Some(lengths(&mut w)?); w.end()?; }
+            "counts" => { bank.counts = Some(w.length()?); w.end()?; }
             "cursor" => { bank.cursor = w.whole()?; w.end()?; }
             "open" => out.answer(&bank.open(&mut w)?),
             "set" => out.answer(&bank.set(&mut w)?),

@@ -6,8 +6,12 @@ use common::{compare, stored, written, Ended};
 
 const OPEN: &str = "open 2 45fa0000 43dc0000 1 1 0 10 30 1024\n";
 
+/// A frame that is over the pitch ceiling there, and what it answers.
+const BLOCK: &str = "block 1 0\np 42700000\nx\ny\na 00000000\n";
+const ANSWER: &str = "= ok 0 1\no 00000000\nc 1\n";
+
 /// Lines after a scenario's first line, and what is said about them.
-const SCENARIOS: [(&str, &str); 36] = [
+const SCENARIOS: [(&str, &str); 40] = [
     ("nonsense", "line 2: expected a call, a preparation, an answer or a comment, found \"nonsense\""),
     ("a 3f800000", "line 2: expected a call, a preparation, an answer or a comment, found \"a\""),
     (" dump", "line 2: expected a call, a preparation, an answer or a comment, found \"\""),
@@ -29,6 +33,10 @@ const SCENARIOS: [(&str, &str); 36] = [
     ("setup 2 45fa0000 43dc0000 1 1", "line 2: expected 0 or 1, found the line's end"),
     ("setup 2 45fa0000 43dc0000 1 1 0 ", "line 2: expected the line's end, found \"\""),
     ("lend 10 18446744073709551615 0", "line 2: expected a whole number, at most 16777216, found \"18446744073709551615\""),
+    ("counts", "line 2: expected a whole number, at most 16777216, found the line's end"),
+    ("counts -1", "line 2: expected a whole number, at most 16777216, found \"-1\""),
+    ("counts 16777217", "line 2: expected a whole number, at most 16777216, found \"16777217\""),
+    ("counts 1 1", "line 2: expected the line's end, found \"1\""),
     ("cursor 18446744073709551616", "line 2: expected a whole number below 2^64, found \"18446744073709551616\""),
     ("table 4294967296 3f800000", "line 2: expected a whole number that fits 32 bits, found \"4294967296\""),
     ("table 0 3f800000 00000000*161", "line 2: expected at most 160 numbers, found 161"),
@@ -46,11 +54,12 @@ const SCENARIOS: [(&str, &str); 36] = [
     ("blockh 1 0\np 3f800000 3f8", "line 3: expected eight lower-case hexadecimal digits, found \"3f8\""),
 ];
 
-const LEAVES: [(&str, &str); 9] = [
+const LEAVES: [(&str, &str); 10] = [
     ("sinh 3f800000 = 3f800000", "line 2: expected a leaf's name, found \"sinh\""),
     ("exp2 = 3f800000", "line 2: expected eight lower-case hexadecimal digits, found \"=\""),
     ("exp2 3f8 = 3f800000", "line 2: expected eight lower-case hexadecimal digits, found \"3f8\""),
     ("exp2 3f800000 3f800000 = 3f800000", "line 2: expected = and the answer, found \"3f800000\""),
+    ("over 3f800000 = 0", "line 2: expected eight lower-case hexadecimal digits, found \"=\""),
     ("max 3f800000", "line 2: expected eight lower-case hexadecimal digits, found the line's end"),
     ("point 8 3f800000 3f800000 =", "line 2: expected a whole number, at most 7, found \"8\""),
     ("point 6 3f800000 3f800000 =", "line 2: expected eight lower-case hexadecimal digits, found \"=\""),
@@ -77,8 +86,7 @@ fn malformed_lines_are_named() {
 /// One byte changed at every place of a file, and the file cut there: it is read or refused.
 #[test]
 fn no_damage_ends_a_run() {
-    let file = format!("{OPEN}table 1 3f800000 3f000000*20\npoke r 29 3f800000\nlend 9 30 1024\nset 0{}\nblock 1 0\np 42880000\nx\ny\na 3f800000\ndump\n",
-        " 3f800000".repeat(9));
+    let file = format!("{OPEN}table 1 3f800000 3f000000*20\npoke r 29 3f800000\nlend 9 30 1024\nset 0{}\ncounts 1\n{BLOCK}dump\n", " 3f800000".repeat(9));
     assert_eq!(compare(&["run"], file.as_bytes()).status, Some(0));
     for at in 0..file.len() {
         for byte in [b' ', b'9', 0xff] {
@@ -98,6 +106,28 @@ fn lent_lists_are_parts() {
     let e = compare(&["run"], format!("{}lend 10 0 0\nset 0{}\ndump\n", OPEN.replace(" 10 30 1024", " 3 0 0"), " 00000000".repeat(9)).as_bytes());
     assert_eq!((e.status, e.err.as_str()), (Some(0), ""));
     assert!(e.out.contains("= refused 6\nlend 10 0 0\n") && e.out.ends_with("\ndump\nt 00000000*2 3f800000\nr\nd\n"), "{}", e.out);
+}
+
+/// A `counts` line is for the next block, whatever stands between, and for no other.
+#[test]
+fn counts_are_lent_to_the_next_block() {
+    let refused = "= refused 10\n";
+    for (lines, first) in [("", ANSWER), ("counts 1\n", ANSWER), ("counts 0\n", refused), ("counts 2\n", refused), ("counts 16777216\n", refused),
+        ("counts 0\ncounts 1\n", ANSWER), ("counts 1\ncounts 0\n", refused), ("counts 0\nlend 10 30 1024\nstart 0\ncursor 0\n", refused),
+        (&format!("counts 0\n{OPEN}"), refused), (&format!("counts 0\nscenario b\n{OPEN}"), ANSWER)] {
+        let e = compare(&["run"], format!("{OPEN}{lines}{BLOCK}{BLOCK}").as_bytes());
+        assert_eq!((e.status, e.err.as_str()), (Some(0), ""), "{lines}");
+        assert!(e.out.ends_with(&format!("{BLOCK}{first}{BLOCK}{ANSWER}")), "{lines}{}", e.out);
+    }
+}
+
+/// Without the line a setup whose slots have no number of 64 bits is refused as any other.
+#[test]
+fn counts_of_wrong_setups() {
+    for (slots, refusal) in [("18446744073709551615 2", 3), ("9223372036854775808 2", 3), ("2 18446744073709551615", 4), ("0 0", 3)] {
+        let e = compare(&["run"], format!("{OPEN}setup 2 45fa0000 43dc0000 {slots} 0\n{BLOCK}").as_bytes());
+        assert!(e.status == Some(0) && e.out.ends_with(&format!("\n= refused {refusal}\n")), "{slots}: {}{}", e.out, e.err);
+    }
 }
 
 fn check(test: &str, kind: &str, text: &str) -> Ended {
@@ -130,13 +160,18 @@ fn differences_are_shown() {
         (format!("{start}start 0\ndump\n"), "line 4\nfile: dump\nours: = ok 0"),
         (start.trim_end().to_string(), "line 2\nfile: no newline at the end\nours: a newline at the end"),
         (format!("{start}block 1 0\np\nx\ny\na\n= refused 9\n"), "line 8\nfile: = refused 9\nours: = refused 10"),
+        (format!("{start}{BLOCK}= ok 0 1\no 00000000\nc 0\n"), "line 10\nfile: c 0\nours: c 1"),
+        (format!("{start}{BLOCK}= ok 0 1\no 00000000\n"), "line 10\nfile: (no line)\nours: c 1"),
+        (format!("{start}counts 2\n{BLOCK}= refused 10\nc 7 7\n"), "line 10\nfile: c 7 7\nours: (no line)"),
         (format!("{start}dump\n{targets}\nr{record}*22\nd 00000000*1024\n"), &format!("line 5\nfile: r{record}*22\nours: r{record}*23")),
     ] {
         let e = check("differences", "run", &text);
         assert_eq!((e.status, e.out.as_str(), e.err), (Some(1), "", format!("FILE: differs at {message}\n")));
     }
-    let e = check("leaf_difference", "leaf", "exp2 00000000 = 3f800001\n");
-    assert_eq!((e.status, e.err.as_str()), (Some(1), "FILE: differs at line 1\nfile: exp2 00000000 = 3f800001\nours: exp2 00000000 = 3f800000\n"));
+    for (file, ours) in [("exp2 00000000 = 3f800001", "exp2 00000000 = 3f800000"), ("over 428a0000 3f000000 = 0", "over 428a0000 3f000000 = 1")] {
+        let e = check("leaf_difference", "leaf", &format!("{file}\n"));
+        assert_eq!((e.status, e.err), (Some(1), format!("FILE: differs at line 1\nfile: {file}\nours: {ours}\n")));
+    }
 }
 
 /// Of a long line the words around the first that differs are shown.

@@ -12,12 +12,12 @@ fn leaves() -> String { stored("crates/leaves/stdin") }
 fn asked() -> usize { scenarios().lines().filter(|l| l.starts_with("scenario ")).count() }
 fn rows() -> usize { leaves().lines().filter(|l| !l.starts_with('#')).count() }
 
-/// A script that answers `gen` and `leafgen` with these texts, and then runs `ending`. `run` is what it does with calls to answer.
+/// A script that answers `gen` and `leafgen` with these texts, and then runs `ending`. `run` is what it does with calls to answer. It asks for its STAGE.
 fn script(test: &str, scenarios: &str, leaves: &str, ending: &str, run: &str) -> String {
     let gen = written(test, "gen", scenarios);
     let leafgen = written(test, "leafgen", leaves);
     let cases = format!("gen) cat '{}'; {ending} ;;\nleafgen) cat '{}'; {ending} ;;\nrun) {run} ;;", gen.display(), leafgen.display());
-    let path = written(test, "oracle", &format!("#!/bin/sh\ncase $1 in\n{cases}\nesac\n"));
+    let path = written(test, "oracle", &format!("#!/bin/sh\n[ \"$STAGE\" = 11 ] || exit 3\ncase $1 in\n{cases}\nesac\n"));
     std::fs::set_permissions(&path, std::fs::Permissions::from_mode(0o755)).expect("the script is a program");
     path.display().to_string()
 }
@@ -96,6 +96,8 @@ fn leaves_cut_short_fail() {
 #[test]
 fn a_changed_answer_fails() {
     fails_with("changed_sample", &changed(&scenarios(), "\no "), &leaves(), "the scenarios differ at line ");
+    fails_with("changed_count", &changed(&scenarios(), "\nc "), &leaves(), "the scenarios differ at line ");
+    fails_with("changed_over", &scenarios(), &changed(&leaves(), "over 4309e207 3c162fc9 = "), "the leaves differ at line ");
     fails_with("changed_leaf", &scenarios(), &changed(&leaves(), "exp2 3f800000 = "), "the leaves differ at line ");
 }
 
@@ -116,6 +118,23 @@ fn a_difference_is_shrunk() {
     fails(&e, "with the Rust's answers:\nscenario ");
     let small = e.err.split("with the Rust's answers:\n").nth(1).and_then(|t| t.split("and with ours:").next()).expect("the scenario");
     assert_eq!(small.lines().filter(|l| l.starts_with("block")).count(), 1, "{small}");
+}
+
+/// A `counts` line goes with its block: dropped with it, kept with it, and nothing that stood between is kept for its sake.
+#[test]
+fn counts_shrink_with_their_block() {
+    let (open, block) = ("open 2 45fa0000 43dc0000 1 1 0 10 30 1024\n", "block 1 0\np 42700000\nx\ny\na 00000000\n");
+    let calls = format!("scenario a\n{open}counts 0\nstart 0\n{block}counts 1\ncursor 5\n{block}{block}dump\n");
+    for (test, from, to, small) in [
+        ("shrunk_count", "c 1", "c 9", format!("{block}= ok 0 1\no 00000000\nc 9\n")),
+        ("shrunk_refusal", "= refused 10", "= refused 9", format!("counts 0\n{block}= refused 9\n")),
+    ] {
+        let spoilt = compare(&["run"], calls.as_bytes()).out.replace(&format!("\n{from}\n"), &format!("\n{to}\n"));
+        let answering = format!("'{}' run | sed 's/^{from}$/{to}/'", env!("CARGO_BIN_EXE_compare"));
+        let oracle = script(test, &spoilt, &leaves(), "exit 0", &answering);
+        let e = compare(&["scale", &oracle, "--samples", "1", "--scenarios", "1", "--rows", &rows().to_string()], b"");
+        fails(&e, &format!("with the Rust's answers:\nscenario a\n{open}= ok 0\n{small}and with ours:\n"));
+    }
 }
 
 #[test]

@@ -35,6 +35,11 @@ fn peak(mix: &[f32], channel: usize) -> f32 {
     mix.iter().skip(channel).step_by(CHANNELS).fold(0.0, |most, x| f32::max(most, x.abs()))
 }
 
+/// How often a channel's voices were over the pitch ceiling in the last block.
+fn over(bank: &Bank, channel: usize) -> u32 {
+    bank.counts()[channel * VOICES..][..VOICES].iter().sum()
+}
+
 fn main() -> Result<(), Refusal> {
     let mut bank = Bank::open(Setup::new(Structure::TransistorLadder, RATE as f32, VOICES, CHANNELS))?;
     println!("sentivolus {}: {VOICES} voices, {CHANNELS} channels at {RATE} Hz", version());
@@ -44,15 +49,21 @@ fn main() -> Result<(), Refusal> {
         bank.set(v, &params)?;
         bank.start(v)?;
     }
-    let (mut phase, mut mix) = ([0.0; VOICES], vec![]);
+    let (mut phase, mut mix, mut swept) = ([0.0; VOICES], vec![], 0);
     let (mut pitch, mut audio) = (vec![0.0; BLOCK * VOICES], vec![0.0; BLOCK * CHANNELS * VOICES]);
     for block in 0..RATE / BLOCK {
         feed(block, &mut phase, &mut pitch, &mut audio);
         bank.block(Block { frames: BLOCK, pitch: &pitch, steering: None }, &mut audio)?;
         mix.extend(audio.chunks(VOICES).map(|voices| voices.iter().fold(0.0, |sum, x| sum + x)));
+        swept += over(&bank, 0) + over(&bank, 1);
     }
     let (left, right, sum) = (peak(&mix, 0), peak(&mix, 1), checksum(&mix));
     println!("rendered {} blocks of {BLOCK} frames: peaks {left:.4} left, {right:.4} right, checksum {sum:08x}", RATE / BLOCK);
+    // The sweep ends at pitch 117 and the ceiling is near 137.9. At pitch 138 the offset of 2 puts the right channel over it, the left one below.
+    pitch.fill(138.0);
+    bank.block(Block { frames: BLOCK, pitch: &pitch, steering: None }, &mut audio)?;
+    let (left, right) = (over(&bank, 0), over(&bank, 1));
+    println!("over the pitch ceiling: {swept} times in the sweep; in a block at pitch 138 {left} times left, {right} right");
     let refused = bank.block(Block { frames: 4097, pitch: &pitch, steering: None }, &mut audio);
     println!("a block of 4097 frames is refused: {}", refused.map_or_else(Refusal::word, |_| "no"));
     Ok(())

@@ -12,6 +12,7 @@ use crate::{calls, Block, Refusal, Setup, VoiceParams};
 /// bank.start(1)?;
 /// let mut audio = [0.5; 128]; // 64 frames of two voices
 /// assert_eq!(bank.block(Block { frames: 64, pitch: &[57.0; 128], steering: None }, &mut audio)?, 64);
+/// assert_eq!(bank.counts(), [0, 0]); // no voice was over the pitch ceiling
 /// assert_eq!(bank.start(2), Err(Refusal::Voice));
 /// # Ok(())
 /// # }
@@ -23,13 +24,15 @@ pub struct Bank {
     records: Vec<f32>,
     delay: Vec<f32>,
     cursor: usize,
+    counts: Vec<u32>,
 }
 
 impl Bank {
     /// Opens a bank, every voice at the defaults and started.
     pub fn open(setup: Setup) -> Result<Bank, Refusal> {
         let [targets, records, delay] = setup.lengths()?.map(|n| vec![0.0; n]);
-        let mut bank = Bank { setup, targets, records, delay, cursor: 0 };
+        let counts = vec![0; setup.slots()?];
+        let mut bank = Bank { setup, targets, records, delay, cursor: 0, counts };
         bank.cursor = calls::open(&bank.setup, &mut bank.targets, &mut bank.records, &mut bank.delay)?;
         Ok(bank)
     }
@@ -44,10 +47,11 @@ impl Bank {
         calls::start(&self.setup, self.cursor, &self.targets, &mut self.records, &mut self.delay, voice).map(|_| ())
     }
 
-    /// Filters a block of audio in place, frames × channels × voices samples; answers the frames rendered.
+    /// Filters a block of audio in place, frames × channels × voices samples, and counts ([`Bank::counts`]); answers the frames rendered.
     pub fn block(&mut self, b: Block<'_>, audio: &mut [f32]) -> Result<usize, Refusal> {
-        let (cursor, rendered) = calls::block(&self.setup, self.cursor, &self.targets, &mut self.records, &mut self.delay, b, audio)?;
-        self.cursor = cursor;
+        let Bank { setup, targets, records, delay, cursor, counts } = self;
+        let (next, rendered) = calls::block(setup, *cursor, targets, records, delay, b, audio, counts)?;
+        *cursor = next;
         Ok(rendered)
     }
 
@@ -74,5 +78,26 @@ impl Bank {
     /// Where its rings are written next.
     pub fn cursor(&self) -> usize {
         self.cursor
+    }
+
+    /// How often each slot, channel × voices + voice, was over the pitch ceiling in the last accepted block, as [`block`](crate::block) counts; all 0
+    /// before the first.
+    ///
+    /// ```
+    /// use sentivolus::{Bank, Block, Setup, Structure, VoiceParams};
+    /// # fn main() -> Result<(), sentivolus::Refusal> {
+    /// let mut bank = Bank::open(Setup::new(Structure::K35, 48000.0, 2, 2))?;
+    /// bank.set(1, &VoiceParams { stereo_offset: 12.0, ..VoiceParams::default() })?;
+    /// bank.start(1)?;
+    /// // three frames: voice 0 is over the ceiling in the first, voice 1 never on the left and always on the right
+    /// let pitch = [150.0, 135.0, 69.0, 135.0, 69.0, 135.0];
+    /// bank.block(Block { frames: 3, pitch: &pitch, steering: None }, &mut [0.0; 12])?;
+    /// let channels: Vec<&[u32]> = bank.counts().chunks(bank.setup().voices).collect();
+    /// assert_eq!(channels, [[1, 0], [1, 3]]);
+    /// # Ok(())
+    /// # }
+    /// ```
+    pub fn counts(&self) -> &[u32] {
+        &self.counts
     }
 }

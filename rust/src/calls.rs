@@ -2,7 +2,7 @@
 //!
 //! Layouts, with slot = channel × voices + voice: targets 10 a voice (resonance, drive, drive gain, inverse knee, offset, mix, level, character,
 //! x, y); records 30 a slot (ten smoothed numbers in that order, then twenty states); delay [`ring_len`] a slot; pitch, x and y by frame, then
-//! voice; audio by frame, then channel, then voice.
+//! voice; audio by frame, then channel, then voice; counts one a slot.
 
 use crate::floats::ieee;
 use crate::refusal::answer;
@@ -69,15 +69,17 @@ impl Setup {
         open(self, &mut [], &mut [], &mut []).err().filter(|r| *r != Refusal::Store)
     }
 
-    /// The lengths of targets, records and delay that this setup asks for.
-    pub fn lengths(&self) -> Result<[usize; 3], Refusal> {
+    /// Voices × channels: the length of a block's counts.
+    pub fn slots(&self) -> Result<usize, Refusal> {
         match self.refusal() {
             Some(refusal) => Err(refusal),
-            None => {
-                let slots = self.voices * self.channels;
-                Ok([10 * self.voices, 30 * slots, ring_len(self.rate) * slots])
-            }
+            None => Ok(self.voices * self.channels),
         }
+    }
+
+    /// The lengths of targets, records and delay that this setup asks for.
+    pub fn lengths(&self) -> Result<[usize; 3], Refusal> {
+        self.slots().map(|slots| [10 * self.voices, 30 * slots, ring_len(self.rate) * slots])
     }
 }
 
@@ -172,19 +174,25 @@ pub fn start(s: &Setup, cursor: usize, targets: &[f32], records: &mut [f32], del
 }
 
 /// Filters a block of audio in place; answers the new cursor and the frames rendered.
+///
+/// To `counts`, one number a slot, it writes how often in this block a cutoff was over the pitch ceiling, the cap of [`ratio_of`](crate::ratio_of), before
+/// it was held there. A frame counts 0 or 1; with [`Structure::Comb2`] 0 or 2, its two reads; with [`Structure::PoleZero`] each running section that was
+/// over, 0 to 8.
+#[allow(clippy::too_many_arguments)]
 pub fn block(s: &Setup, cursor: usize, targets: &[f32], records: &mut [f32], delay: &mut [f32], b: Block<'_>,
-    audio: &mut [f32]) -> Result<(usize, usize), Refusal> {
+    audio: &mut [f32], counts: &mut [u32]) -> Result<(usize, usize), Refusal> {
     let (x, y) = b.steering.unwrap_or((&[], &[]));
-    block_marked(s, cursor, targets, records, delay, b.frames, b.pitch, b.steering.is_some(), x, y, audio)
+    block_marked(s, cursor, targets, records, delay, b.frames, b.pitch, b.steering.is_some(), x, y, audio, counts)
 }
 
 /// [`block`] with the steering as a mark and two lists, which a wrong call may hold at odds.
 #[allow(clippy::too_many_arguments)]
 pub fn block_marked(s: &Setup, cursor: usize, targets: &[f32], records: &mut [f32], delay: &mut [f32], frames: usize,
-    pitch: &[f32], steered: bool, x: &[f32], y: &[f32], audio: &mut [f32]) -> Result<(usize, usize), Refusal> {
+    pitch: &[f32], steered: bool, x: &[f32], y: &[f32], audio: &mut [f32], counts: &mut [u32]) -> Result<(usize, usize), Refusal> {
     let (mut next, mut rendered) = (cursor, 0usize);
     // SAFETY: each pointer and length are of one slice, and those that are written, with `next` and `rendered`, overlap no other.
     call!(sentivolus_block, s, &mut next, targets.as_ptr(), targets.len(), records.as_mut_ptr(), records.len(), delay.as_mut_ptr(), delay.len(),
-        frames, pitch.as_ptr(), pitch.len(), steered, x.as_ptr(), x.len(), y.as_ptr(), y.len(), audio.as_mut_ptr(), audio.len(), &mut rendered)
+        frames, pitch.as_ptr(), pitch.len(), steered, x.as_ptr(), x.len(), y.as_ptr(), y.len(), audio.as_mut_ptr(), audio.len(),
+        counts.as_mut_ptr(), counts.len(), &mut rendered)
         .map(|()| (next, rendered))
 }

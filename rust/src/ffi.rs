@@ -18,7 +18,8 @@ extern "C" {
     pub fn sentivolus_block(code: u32, rate: f32, reference: f32, voices: usize, channels: usize, clean: bool,
         active: u32, sections: *const [f32; 160], gain: f32, cursor: *mut usize, targets: *const f32, targets_len: usize,
         records: *mut f32, records_len: usize, delay: *mut f32, delay_len: usize, frames: usize, pitch: *const f32, pitch_len: usize,
-        steered: bool, x: *const f32, x_len: usize, y: *const f32, y_len: usize, audio: *mut f32, audio_len: usize, rendered: *mut usize) -> u32;
+        steered: bool, x: *const f32, x_len: usize, y: *const f32, y_len: usize, audio: *mut f32, audio_len: usize,
+        counts: *mut u32, counts_len: usize, rendered: *mut usize) -> u32;
     pub fn sentivolus_point(kind: u32, frequency: f32, q: f32, a: f32, b: f32, out: *mut [f32; 5]);
     pub fn sentivolus_table(kinds: *const [u32; 32], numbers: *const [f32; 128], gain_db: f32, sections: *mut [f32; 160], gain: *mut f32) -> u32;
     pub fn sentivolus_section(kinds: *const [u32; 32], numbers: *const [f32; 128], gain_db: f32, point: usize, x: f32, y: f32,
@@ -37,6 +38,7 @@ extern "C" {
     pub fn sentivolus_ring_len(rate: f32) -> usize;
     pub fn sentivolus_read(buf: *const f32, buf_len: usize, len: usize, cursor: usize, slot: usize, delay: f32) -> f32;
     pub fn sentivolus_ratio_of(pitch: f32, reference_over_rate: f32) -> f32;
+    pub fn sentivolus_over(pitch: f32, reference_over_rate: f32) -> bool;
     pub fn sentivolus_gain(pitch: f32, reference_over_rate: f32) -> f32;
     pub fn sentivolus_svf(ic1: f32, ic2: f32, x: f32, g: f32, k: f32, out: *mut [f32; 4]);
     pub fn sentivolus_targets_of(resonance: f32, drive: f32, saturation: f32, character: f32, stereo_offset: f32, mix: f32,

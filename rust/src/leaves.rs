@@ -84,6 +84,12 @@ pub fn ratio_of(pitch: f32, reference_over_rate: f32) -> f32 {
     ieee(|| unsafe { ffi::sentivolus_ratio_of(pitch, reference_over_rate) })
 }
 
+/// Whether [`ratio_of`]'s ratio was greater than its cap before it was capped; an equal one is not, nor is a NaN.
+pub fn over(pitch: f32, reference_over_rate: f32) -> bool {
+    // SAFETY: numbers alone.
+    ieee(|| unsafe { ffi::sentivolus_over(pitch, reference_over_rate) })
+}
+
 /// The integrator's gain, tan of pi times [`ratio_of`].
 pub fn gain(pitch: f32, reference_over_rate: f32) -> f32 {
     // SAFETY: numbers alone.

@@ -24,7 +24,7 @@ pub enum Refusal {
     Knob = 8,
     /// The frames are 0 or above 4,096.
     Frames = 9,
-    /// Pitch, x, y or audio is not exactly as long as the frames ask.
+    /// Pitch, x, y or audio is not exactly as long as the frames ask, or counts as the slots ask.
     Buffer = 10,
     /// The point number is above 7.
     Point = 11,
@@ -41,7 +41,7 @@ const ALL: [(Refusal, &str, &str); 11] = [
     (Refusal::Voice, "voice", "voice number not below voices"),
     (Refusal::Knob, "knob", "NaN resonance, drive, saturation, character or mix"),
     (Refusal::Frames, "frames", "frames 0 or above 4,096"),
-    (Refusal::Buffer, "buffer", "pitch, x, y or audio of a wrong length"),
+    (Refusal::Buffer, "buffer", "pitch, x, y, audio or counts of a wrong length"),
     (Refusal::Point, "point", "point number above 7"),
 ];
 

@@ -17,8 +17,9 @@ fn impulse_of_document_01() {
     assert_eq!(open(&s, &mut t, &mut r, &mut d), Ok(0));
     let mut audio = [1.0, 0.0, 0.0];
     let b = Block { frames: 3, pitch: &[69.0; 3], steering: None };
-    assert_eq!(block(&s, 7, &t, &mut r, &mut d, b, &mut audio), Ok((7, 3)));
-    assert_eq!(audio.map(f32::to_bits), [0x3f80_0000, 0, 0]);
+    let mut counts = [7];
+    assert_eq!(block(&s, 7, &t, &mut r, &mut d, b, &mut audio, &mut counts), Ok((7, 3)));
+    assert_eq!((audio.map(f32::to_bits), counts), ([0x3f80_0000, 0, 0], [0]));
 }
 
 #[test]
@@ -44,7 +45,7 @@ fn each_refusal_of_the_setup() {
         let (mut t, mut r, mut d) = lists(&good);
         assert_eq!(open(&s, &mut t, &mut r, &mut d), Err(refusal));
         assert!(t.iter().chain(&r).chain(&d).all(|&x| x == 0.5));
-        assert_eq!((s.refusal(), s.lengths()), (Some(refusal), Err(refusal)));
+        assert_eq!((s.refusal(), s.lengths(), s.slots()), (Some(refusal), Err(refusal), Err(refusal)));
         assert_eq!(Bank::open(s).err(), Some(refusal));
     }
 }
@@ -62,21 +63,23 @@ fn each_refusal_of_the_calls() {
     assert_eq!(start(&s, 9, &t, &mut r[..29], &mut d, 0), Err(Refusal::Store));
     assert_eq!(start(&s, 9, &t, &mut r, &mut d, 1), Err(Refusal::Voice));
     assert_eq!(start(&s, 9, &t, &mut r, &mut d, 0), Ok(9));
-    let mut audio = [0.25; 2];
-    for (refusal, frames, pitch, steered, x, y) in [
-        (Refusal::Frames, 0, 2, false, 0, 0),
-        (Refusal::Frames, 4097, 2, false, 0, 0),
-        (Refusal::Frames, usize::MAX, 2, false, 0, 0),
-        (Refusal::Buffer, 2, 1, false, 0, 0),
-        (Refusal::Buffer, 2, 2, true, 1, 2),
-        (Refusal::Buffer, 2, 2, true, 2, 1),
-        (Refusal::Buffer, 2, 2, false, 2, 2),
-        (Refusal::Buffer, 1, 1, false, 0, 0),
+    let (mut audio, mut counts) = ([0.25; 2], [7; 2]);
+    for (refusal, frames, pitch, steered, x, y, slots) in [
+        (Refusal::Frames, 0, 2, false, 0, 0, 1),
+        (Refusal::Frames, 4097, 2, false, 0, 0, 0),
+        (Refusal::Frames, usize::MAX, 2, false, 0, 0, 1),
+        (Refusal::Buffer, 2, 1, false, 0, 0, 1),
+        (Refusal::Buffer, 2, 2, true, 1, 2, 1),
+        (Refusal::Buffer, 2, 2, true, 2, 1, 1),
+        (Refusal::Buffer, 2, 2, false, 2, 2, 1),
+        (Refusal::Buffer, 1, 1, false, 0, 0, 1),
+        (Refusal::Buffer, 2, 2, false, 0, 0, 0),
+        (Refusal::Buffer, 2, 2, false, 0, 0, 2),
     ] {
-        let l = [0.0f32; 2];
-        let a = block_marked(&s, 9, &t, &mut r, &mut d, frames, &l[..pitch], steered, &l[..x], &l[..y], &mut audio);
+        let l = [200.0f32; 2];
+        let a = block_marked(&s, 9, &t, &mut r, &mut d, frames, &l[..pitch], steered, &l[..x], &l[..y], &mut audio, &mut counts[..slots]);
         assert_eq!(a, Err(refusal));
-        assert_eq!(audio, [0.25; 2]);
+        assert_eq!((audio, counts), ([0.25; 2], [7; 2]));
     }
 }
 
@@ -87,7 +90,7 @@ fn comb2_moves_the_cursor_and_its_ring() {
     open(&s, &mut t, &mut r, &mut d).unwrap();
     let mut audio = [1.0, -1.0];
     let b = Block { frames: 1, pitch: &[69.0], steering: Some((&[0.0], &[0.0])) };
-    assert_eq!(block(&s, usize::MAX, &t, &mut r, &mut d, b, &mut audio), Ok((0, 1)));
+    assert_eq!(block(&s, usize::MAX, &t, &mut r, &mut d, b, &mut audio, &mut [7; 2]), Ok((0, 1)));
     let ring = ring_len(48000.0);
     let written: Vec<usize> = d.iter().enumerate().filter(|(_, &v)| v != 0.0).map(|(i, _)| i).collect();
     assert_eq!(written, [ring - 1, 2 * ring - 1]);
@@ -116,7 +119,7 @@ fn defaults_are_the_archives() {
     assert_eq!(VoiceParams::default(), VoiceParams::from_array([0.1, 0.0, 0.0, 0.0, 0.0, 1.0, 1.0, 0.0, 0.0]));
     let bank = Bank::open(setup()).unwrap();
     assert_eq!(bank.targets(), targets_of(&VoiceParams::default()));
-    assert_eq!(version(), 200);
+    assert_eq!(version(), 300);
 }
 
 #[test]
@@ -130,12 +133,42 @@ fn a_bank_does_what_the_free_calls_do() {
     set(&s, 0, &mut t, 2, &p).unwrap();
     bank.start(2).unwrap();
     start(&s, 0, &t, &mut r, &mut d, 2).unwrap();
-    let (mut ours, mut theirs) = ([0.25; 30], [0.25; 30]);
-    let b = Block { frames: 5, pitch: &[60.0; 15], steering: None };
+    let (mut ours, mut theirs, mut counts) = ([0.25; 30], [0.25; 30], [7; 6]);
+    let pitch: Vec<f32> = (0..15).map(|i| 60.0 + 10.0 * i as f32).collect();
+    let b = Block { frames: 5, pitch: &pitch, steering: None };
+    assert_eq!(bank.counts(), [0; 6]);
     assert_eq!(bank.block(b, &mut ours), Ok(5));
-    assert_eq!(block(&s, 0, &t, &mut r, &mut d, b, &mut theirs), Ok((5, 5)));
+    assert_eq!(block(&s, 0, &t, &mut r, &mut d, b, &mut theirs, &mut counts), Ok((5, 5)));
     assert_eq!(bank.block(Block { frames: 6, ..b }, &mut ours), Err(Refusal::Buffer));
     assert_eq!((ours, bank.targets(), bank.records(), bank.delay(), bank.cursor()), (theirs, &t[..], &r[..], &d[..], 5));
+    assert_eq!((bank.counts(), counts), (&[4, 4, 6, 4, 4, 6][..], [4, 4, 6, 4, 4, 6]));
+}
+
+/// The ceiling is near pitch 98: voice 0 is over it in three frames of five, voice 1 on the right alone, but for the highest of PoleZero's sections.
+#[test]
+fn counts_of_every_structure() {
+    let mut design = Design::default();
+    for i in 0..8 {
+        design.put(0, i, Point { kind: PointKind::LowPass, frequency: 90.0 * (i + 1) as f32, q: 1.0 });
+    }
+    let pitch = [200.0, 110.0, 20.0, 110.0, 200.0, 110.0, 20.0, 110.0, 200.0, 110.0];
+    for code in 1..=12 {
+        let each = match code { 8 => 8, 9 => 2, _ => 1 };
+        let mut bank = Bank::open(Setup { code, reference: 4400.0, table: table(&design), ..Setup::new(Structure::K35, 48000.0, 2, 2) }).unwrap();
+        bank.set(1, &VoiceParams { stereo_offset: 20.0, ..VoiceParams::default() }).unwrap();
+        bank.start(1).unwrap();
+        for _ in 0..2 {
+            bank.block(Block { frames: 5, pitch: &pitch, steering: None }, &mut [0.5; 20]).unwrap();
+            assert_eq!(bank.counts(), [3 * each, if code == 8 { 5 } else { 0 }, 3 * each, 5 * each], "code {code}");
+        }
+    }
+}
+
+#[test]
+fn over_is_above_the_cap() {
+    let cap = ratio_of(1000.0, 1.0);
+    assert_eq!([137.0, 138.0, f32::NAN, f32::INFINITY, f32::NEG_INFINITY].map(|p| over(p, 440.0 / 48000.0)), [false, true, false, true, false]);
+    assert_eq!([cap, f32::from_bits(cap.to_bits() + 1), f32::NAN, f32::INFINITY].map(|r| over(69.0, r)), [false, true, false, true]);
 }
 
 #[test]

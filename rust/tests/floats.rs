@@ -41,7 +41,7 @@ fn noise(n: usize) -> Vec<f32> {
 fn sitting(code: u32, mode: u32) -> Vec<u32> {
     let design = bells();
     let p = VoiceParams::from_array([0.7, 0.4, 0.3, 0.35, 1.7, 0.9, 1.0, 0.0, 0.0]);
-    let pitch: Vec<f32> = (0..512).map(|i| 60.0 + (i % 31) as f32).collect();
+    let pitch: Vec<f32> = (0..512).map(|i| 60.0 + 3.0 * (i % 31) as f32).collect();
     let mut audio = noise(1024);
     let b = Block { frames: 256, pitch: &pitch, steering: None };
     let mut bank = None;
@@ -60,7 +60,7 @@ fn sitting(code: u32, mode: u32) -> Vec<u32> {
     assert_eq!((answer, left & !0x3f), (Ok(()), mode & !0x3f));
     let bank = bank.unwrap();
     let lists = [&audio[..], bank.targets(), bank.records(), bank.delay(), &bank.setup().table.sections];
-    lists.concat().iter().map(|x| x.to_bits()).chain([bank.cursor() as u32]).collect()
+    lists.concat().iter().map(|x| x.to_bits()).chain(bank.counts().iter().copied()).chain([bank.cursor() as u32]).collect()
 }
 
 #[test]

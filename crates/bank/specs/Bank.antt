@@ -1,4 +1,4 @@
--- What the bank's code answers and leaves, read as the calls of voices/specs/Calls (document 01). Definitions only.
+-- What the bank's code answers and leaves, read as the calls of voices/specs/Calls (document 01; document 02, C-11). Definitions only.
 use mathlib.Core.Path.{_≡_}
 use Prim.Native.Nat.{ℕ}
 use mathlib.Core.List.{List, [], _∷_}
@@ -14,11 +14,11 @@ use Rattle.bank.specs.declared.Answer.the-variants.{Refused, Kept, Rende
 
 -- ---- answers: document 01's number and values for each case
 
--- a refusal's number; the cursor kept; the new cursor and the frames rendered, with the audio that the call left
-unfoldable pub answerOf : CodeAnswer → (audio : List Float) → Answer
-answerOf (Refused k) audio = refusedCall k
-answerOf (Kept cursor) audio = kept cursor
-answerOf (Rendered cursor frames) audio = rendered cursor frames audio
+-- a refusal's number; the cursor kept; the new cursor and the frames rendered, with the audio and the counts (C-11) that the call left
+unfoldable pub answerOf : CodeAnswer → (audio : List Float) (counts : List ℕ) → Answer
+answerOf (Refused k) audio counts = refusedCall k
+answerOf (Kept cursor) audio counts = kept cursor
+answerOf (Rendered cursor frames) audio counts = rendered cursor frames audio counts
 
 -- the cursor that the next call is given: a refusal keeps the caller's
 unfoldable pub cursorOf : CodeAnswer → (cursor : ℕ) → ℕ
@@ -32,23 +32,23 @@ cursorOf (Rendered cursor frames) given = cursor
 abbrev pub before : Bank → Run
 before b = record { bank = b; log = [] }
 
--- the run that a call's answer and the lists it left make
-abbrev pub after : CodeAnswer → (cursor : ℕ) (targets records delay audio : List Float) → Run
-after r cur tg rs ds audio = record { bank = bankOf tg rs ds (cursorOf r cur); log = answerOf r audio ∷ [] }
+-- the run that a call's answer and the lists it left make; audio and counts (C-11) are a block's alone
+abbrev pub after : CodeAnswer → (cursor : ℕ) (targets records delay audio : List Float) (counts : List ℕ) → Run
+after r cur tg rs ds audio counts = record { bank = bankOf tg rs ds (cursorOf r cur); log = answerOf r audio counts ∷ [] }
 
 -- ---- what each call promises
 
 -- set takes targets alone: whatever records and delay are, it does `call` with those targets and keeps them
 abbrev pub SetDoes : Setup → (cursor voice : ℕ) → VoiceParams → (targets : List Float) → CodeAnswer → (targets' : List Float) → Type 0
-SetDoes s cur v p tg r tg' = (rs ds : List Float) → after r cur tg' rs ds [] ≡ call (engine s) (s .voices) (callSet v p) (before (bankOf tg rs ds cur))
+SetDoes s cur v p tg r tg' = (rs ds : List Float) → after r cur tg' rs ds [] [] ≡ call (engine s) (s .voices) (callSet v p) (before (bankOf tg rs ds cur))
 
 abbrev pub StartDoes : Setup → (cursor voice : ℕ) (targets records delay : List Float) → CodeAnswer → (records' delay' : List Float) → Type 0
-StartDoes s cur v tg rs ds r rs' ds' = after r cur tg rs' ds' [] ≡ call (engine s) (s .voices) (callStart v) (before (bankOf tg rs ds cur))
+StartDoes s cur v tg rs ds r rs' ds' = after r cur tg rs' ds' [] [] ≡ call (engine s) (s .voices) (callStart v) (before (bankOf tg rs ds cur))
 
--- a refused block leaves the audio too
-pub record BlockDoes (s : Setup) (q : Block) (b : Bank) (r : CodeAnswer) (rs ds audio : List Float) : Type 0 where
-  pub does : after r (b .cursor) (b .targets) rs ds audio ≡ call (engine s) (s .voices) (callBlock q) (before b)
-  pub keeps : (k : ℕ) → r ≡ Refused k → audio ≡ q .audio
+-- a refused block leaves the audio and the counts (C-11) too
+pub record BlockDoes (s : Setup) (q : Block) (b : Bank) (r : CodeAnswer) (rs ds audio : List Float) (counts : List ℕ) : Type 0 where
+  pub does : after r (b .cursor) (b .targets) rs ds audio counts ≡ call (engine s) (s .voices) (callBlock q) (before b)
+  pub keeps : (k : ℕ) → r ≡ Refused k → (audio ≡ q .audio) × (counts ≡ q .counts)
 
 -- open: the lists with every voice set to the defaults and started, and cursor 0; refused, the lists as they were
 abbrev pub openBy : Check → Setup → Bank → Run
@@ -56,5 +56,5 @@ openBy fine s b = record { bank = openOf (engine s) (s .voices) b; log = kept 0 
 openBy (refused k) s b = record { bank = b; log = refusedCall k ∷ [] }
 
 pub record OpenDoes (s : Setup) (b : Bank) (r : CodeAnswer) (s' : Setup) (tg rs ds : List Float) : Type 0 where
-  pub does : after r (b .cursor) tg rs ds [] ≡ openBy (openVerdict (engine s) (s .voices) b) s b
+  pub does : after r (b .cursor) tg rs ds [] [] ≡ openBy (openVerdict (engine s) (s .voices) b) s b
   pub setup : s' ≡ s

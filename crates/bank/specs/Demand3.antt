@@ -1,5 +1,5 @@
--- Demand 3 at the bank's engine (document 01, 'A voice from its feed'): the two statements, then their proofs from
--- voices/specs/Voice and the engine's laws. Assumes nothing.
+-- Demand 3 at the bank's engine (document 01, 'A voice from its feed'; document 02, C-11: counts are compared too): the two statements,
+-- then their proofs from voices/specs/Voice and the engine's laws. Assumes nothing.
 use mathlib.Core.Path.{_≡_, refl, subst}
 use Prim.Native.Nat.{ℕ, _<_}
 use mathlib.Core.List.{List, _++_}

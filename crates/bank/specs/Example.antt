@@ -37,7 +37,7 @@ abbrev number : ℕ → Float
 number k = ofBits binary32 k
 
 block : Block
-block = record { frames = 2; pitch = tab number 4; steered = true; x = tab number 4; y = replicate 4 nan; audio = tab number 4 }
+block = record { frames = 2; pitch = tab number 4; steered = true; x = tab number 4; y = replicate 4 nan; audio = tab number 4; counts = 8 ∷ 9 ∷ [] }
 
 calls : List (Call VoiceParams)
 calls = callStart 2 ∷ callSet 0 defaultParams ∷ callSet 1 defaultParams ∷ callStart 1 ∷ callBlock block ∷ []

@@ -122,7 +122,8 @@ pub fn start(
     Answer::Kept(cursor)
 }
 
-// Renders a block: every slot, frame by frame, in place. The root's table and the constants are made once.
+// Renders a block: every slot, frame by frame, in place. C-11: counts, one number a slot, becomes how often a ratio was greater than its
+// cap in this block. The root's table and the constants are made once.
 pub fn block(
     setup: Setup,
     cursor: usize,
@@ -135,11 +136,12 @@ pub fn block(
     x: &[f32],
     y: &[f32],
     audio: &mut [f32],
+    counts: &mut [u32],
 ) -> Answer
     ensures { λ r. ⌜ BlockDoes setup
-        (blockFrom frames (now (pitch .entry)) steered (now (x .entry)) (now (y .entry)) (now (audio .entry)))
+        (blockFrom frames (now (pitch .entry)) steered (now (x .entry)) (now (y .entry)) (now (audio .entry)) (now (counts .entry)))
         (bankOf (now (targets .entry)) (now (records .entry)) (now (delay .entry)) cursor)
-        r (now (records .exit)) (now (delay .exit)) (now (audio .exit)) ⌝ }
+        r (now (records .exit)) (now (delay .exit)) (now (audio .exit)) (now (counts .exit)) ⌝ }
 {
     let checked = checks::block_check(
         setup,
@@ -152,6 +154,7 @@ pub fn block(
         x,
         y,
         audio,
+        counts,
     );
     if let Verdict::Refused(n) = checked {
         return Answer::Refused(n);
@@ -188,6 +191,7 @@ pub fn block(
         x,
         y,
         audio,
+        counts,
     );
     Answer::Rendered(slots::cursor_after(setup.code, cursor, frames), frames)
 }

@@ -1,5 +1,5 @@
 -- What the code of the checks answers, and the lists that it measures, read as those of voices/specs/Calls (document 01, 'A bank is
--- opened'). Definitions only.
+-- opened'; document 02, C-11). Definitions only.
 use mathlib.Core.Path.{_≡_}
 use Prim.Native.Nat.{ℕ}
 use mathlib.Core.Bool.{Bool}
@@ -22,8 +22,9 @@ checkOf (Refusal k) = refused k
 abbrev pub bankOf : (targets records delay : List Float) (cursor : ℕ) → Bank
 bankOf tg rs ds cur = record { targets = tg; records = rs; delay = ds; cursor = cur }
 
-abbrev pub blockFrom : (frames : ℕ) (pitch : List Float) (steered : Bool) (x y audio : List Float) → Block
-blockFrom f p st x y a = record { frames = f; pitch = p; steered = st; x = x; y = y; audio = a }
+-- a block's lists: `counts` is C-11's
+abbrev pub blockFrom : (frames : ℕ) (pitch : List Float) (steered : Bool) (x y audio : List Float) (counts : List ℕ) → Block
+blockFrom f p st x y a counts = record { frames = f; pitch = p; steered = st; x = x; y = y; audio = a; counts = counts }
 
 -- ---- what the checks promise: the verdict on open, and on any other call
 

@@ -139,7 +139,7 @@ fn steering_length(steered: bool, pitch: usize) -> usize
     if steered { pitch } else { 0 }
 }
 
-// Those of open, then 9 and 10.
+// Those of open, then 9 and 10; counts, which C-11 added, has one number a slot.
 pub fn block_check(
     setup: Setup,
     targets: &[f32],
@@ -151,9 +151,10 @@ pub fn block_check(
     x: &[f32],
     y: &[f32],
     audio: &[f32],
+    counts: &[u32],
 ) -> Verdict
     ensures { λ r. ⌜ IsVerdict setup
-        (callBlock (blockFrom frames (now (pitch .entry)) steered (now (x .entry)) (now (y .entry)) (now (audio .entry))))
+        (callBlock (blockFrom frames (now (pitch .entry)) steered (now (x .entry)) (now (y .entry)) (now (audio .entry)) (now (counts .entry))))
         (bankOf (now (targets .entry)) (now (records .entry)) (now (delay .entry)) 0) r ⌝ }
 {
     let first = open_check(setup, targets, records, delay);
@@ -174,7 +175,11 @@ pub fn block_check(
     if y.len() != steering {
         return Verdict::Refused(10);
     }
-    if audio.len() != frames * (setup.channels * setup.voices) {
+    let slots = setup.channels * setup.voices;
+    if audio.len() != frames * slots {
+        return Verdict::Refused(10);
+    }
+    if counts.len() != slots {
         return Verdict::Refused(10);
     }
     Verdict::Fine

@@ -1,13 +1,14 @@
 -- Comb2 (extended.rs): a feedback comb whose loop reads two taps of the slot's ring, averaged, with a soft clipper in the loop.
 -- Definitions only. Assumes nothing.
 use Prim.Native.Nat.{ℕ}
+use mathlib.Core.Bool.{Bool}
 use mathlib.Core.List.{List}
 use lib.Ieee.{Float}
 use Rattle.lane.specs.Floats.{_⊕_, _⊖_, _⊗_, _⊘_, fma, decimal, one, two, half}
 use Rattle.lane.specs.Lane.{exp2Of, softClip}
 use Rattle.lines.specs.Lines.{ringRead, ringWrite}
 use Rattle.filter.specs.declared.Pitch.{Pitch}
-use Rattle.filter.specs.Filter.{ratioOf}
+use Rattle.filter.specs.Filter.{ratioOf, overOf}
 use Rattle.extended.specs.declared.Settings.{Settings}
 use Rattle.combs.specs.declared.Comb2.{Comb2}
 
@@ -21,6 +22,10 @@ unfoldable pub combCoefficients : Pitch → Settings → Comb2
 combCoefficients pitch p =
     let ratio = ratioOf pitch (p .«reference_ratio») .0 in
     combWith (one ⊘ ratio) (one ⊘ (ratio ⊗ exp2Of (p .character ⊗ two))) p
+
+-- document 02, C-11: the mark of the ratio that both reads' delays come from
+unfoldable pub combOver : Pitch → Settings → Bool
+combOver pitch p = overOf pitch (p .«reference_ratio»)
 
 -- what the loop writes, from the two taps read
 unfoldable pub combLoop : Comb2 → (first second x : Float) → Float

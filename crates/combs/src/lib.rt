@@ -2,10 +2,11 @@
 // frequency back, averaged, with a soft clipper in the loop. The output is scaled by 1 - feedback.
 ghost use mathlib.Core.Path.{_≡_};
 ghost use Rattle.lines.specs.Ring.{StandsIn};
+ghost use Rattle.filter.specs.declared.Pitch.{Pitch};
+ghost use Rattle.filter.specs.Filter.{ratioOf};
 ghost use Rattle.combs.specs.Combs.{combCoefficients, combWith, combLoop};
 ghost use Rattle.combs.specs.Contracts.{CombLeaves};
 use extended::Settings;
-use filter::Pitch;
 use lines::Ring;
 
 // The second frequency at character 1, in octaves above the first.
@@ -35,11 +36,10 @@ pub fn comb_with(first: f32, second: f32, p: Settings) -> Comb2
     }
 }
 
-pub fn comb_coefficients(pitch: Pitch, p: Settings) -> Comb2
-    ensures { λ r. ⌜ r ≡ combCoefficients pitch p ⌝ }
+// From the ratio of a pitch.
+pub fn comb_coefficients(ratio: f32, p: Settings) -> Comb2
+    ensures { λ r. ⌜ ((pitch : Pitch) → ratio ≡ ratioOf pitch (p .«reference_ratio») .0 → r ≡ combCoefficients pitch p) ⌝ }
 {
-    let reference = p.reference_ratio;
-    let ratio = filter::ratio_of(pitch, reference).0;
     let octaves = lane::exp2(p.character * COMB_OCTAVES);
     comb_with(1.0 / ratio, 1.0 / (ratio * octaves), p)
 }

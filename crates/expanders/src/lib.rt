@@ -1,12 +1,13 @@
 // The expanders and the K35. Each has what follows from the pitch and the settings alone, in a struct of its name, and the step over
 // the input and the states. `t` is the root's table.
 ghost use mathlib.Core.Path.{_≡_};
+ghost use Rattle.filter.specs.declared.Pitch.{Pitch};
+ghost use Rattle.filter.specs.Filter.{gainOf};
 ghost use Rattle.extended.specs.Extended.{ticked};
 ghost use Rattle.expanders.specs.Expanders.{expanderCoefficients, expanderWith, expanderSolve, expanderTaps, stages, bandMix, bandStep};
 ghost use Rattle.expanders.specs.Expanders.{tapWeight, multimodeWeights, multimodeMix, multimodeStep};
 ghost use Rattle.expanders.specs.Expanders.{k35Coefficients, k35With, k35Den, k35Low, k35High, k35Feedback, k35Step};
 use extended::Settings;
-use filter::Pitch;
 use stages::Five;
 use stages::Stages;
 
@@ -38,11 +39,10 @@ pub fn expander_with(gg: f32, h: f32, gg4: f32, p: Settings) -> Expander
     }
 }
 
-pub fn expander_coefficients(pitch: Pitch, p: Settings) -> Expander
-    ensures { λ r. ⌜ r ≡ expanderCoefficients pitch p ⌝ }
+// From the gain of a pitch.
+pub fn expander_coefficients(g: f32, p: Settings) -> Expander
+    ensures { λ r. ⌜ ((pitch : Pitch) → g ≡ gainOf pitch (p .«ref_over_rate») → r ≡ expanderCoefficients pitch p) ⌝ }
 {
-    let reference = p.ref_over_rate;
-    let g = filter::gain(pitch, reference);
     let gg = g / (1.0 + g);
     let gg2 = gg * gg;
     expander_with(gg, 1.0 - gg, gg2 * gg2, p)
@@ -172,11 +172,10 @@ pub fn k35_with(gg: f32, h: f32, w: f32, p: Settings) -> K35
     }
 }
 
-pub fn k35_coefficients(pitch: Pitch, p: Settings) -> K35
-    ensures { λ r. ⌜ r ≡ k35Coefficients pitch p ⌝ }
+// From the gain of a pitch.
+pub fn k35_coefficients(g: f32, p: Settings) -> K35
+    ensures { λ r. ⌜ ((pitch : Pitch) → g ≡ gainOf pitch (p .«ref_over_rate») → r ≡ k35Coefficients pitch p) ⌝ }
 {
-    let reference = p.ref_over_rate;
-    let g = filter::gain(pitch, reference);
     let gg = g / (1.0 + g);
     let w = extended::unit((p.character - K35_SWITCH_0) * (1.0 / (K35_SWITCH_1 - K35_SWITCH_0)));
     k35_with(gg, 1.0 - gg, w, p)

@@ -1,6 +1,8 @@
 -- What mod.rs gives the extended kernels: the pitch's way to a ratio and a gain, the state-variable stage, its damping laws.
 -- Definitions only. Assumes nothing.
-use lib.Ieee.{Float, neg}
+use mathlib.Core.Bool.{Bool, cond}
+use Prim.Native.Nat.{ℕ}
+use lib.Ieee.{Float, neg, lt}
 use Rattle.lane.specs.Floats.{_⊕_, _⊖_, _⊗_, _⊘_, fma, decimal, whole, one}
 use Rattle.lane.specs.Lane.{maxOf, minOf, exp2Of, tanOf, saturationGain, pi, tanLimit}
 use Rattle.filter.specs.declared.Pitch.{Pitch}
@@ -19,9 +21,21 @@ octavesOf pitch = (pitch .0 ⊖ whole 69) ⊗ (one ⊘ whole 12)
 unfoldable pub ratioAt : Float → Ratio → Ratio
 ratioAt octaves reference = record { 0 = minOf (exp2Of octaves ⊗ reference .0) ratioLimit }
 
+-- document 02, C-11, the mark of that ratio: whether it was greater than its cap. A NaN is not, nor is an equal one
+unfoldable pub overAt : Float → Ratio → Bool
+overAt octaves reference = lt ratioLimit (exp2Of octaves ⊗ reference .0)
+
+-- a mark, counted
+abbrev pub once : Bool → ℕ
+once over = cond over 1 0
+
 -- ratio_of
 unfoldable pub ratioOf : Pitch → Ratio → Ratio
 ratioOf pitch reference = ratioAt (octavesOf pitch) reference
+
+-- C-11's mark of that ratio
+unfoldable pub overOf : Pitch → Ratio → Bool
+overOf pitch reference = overAt (octavesOf pitch) reference
 
 -- the prewarped integrator gain of a ratio
 unfoldable pub gainAt : Ratio → Float

@@ -2,7 +2,9 @@
 ghost use mathlib.Core.Path.{_≡_};
 ghost use mathlib.Core.Bool.{Bool};
 ghost use lib.Ieee.{isNan};
-ghost use Rattle.filter.specs.Filter.{octavesOf, ratioAt, ratioOf, gainAt, gainOf, svfOf, svfK, saturatedK};
+ghost use Rattle.filter.specs.Filter.{octavesOf, ratioOf, overOf, once, gainAt, gainOf};
+ghost use Rattle.filter.specs.Judged.{cappedAt, cappedOf, judgedGain};
+ghost use Rattle.filter.specs.Filter.{svfOf, svfK, saturatedK};
 ghost use Rattle.filter.specs.Voice.{defaultParams, unitOrNan, driveGain, inverseKnee, finiteOr0, levelOf, morphOf, targetsOf, morphTargetsOf};
 ghost use Rattle.filter.specs.Voice.{voiceTargets, nanKnob};
 
@@ -24,18 +26,51 @@ pub fn octaves_of(pitch: Pitch) -> f32
     (pitch.0 - 69.0) * (1.0 / 12.0)
 }
 
-// The ratio of so many octaves above the reference, held just below Nyquist. Every ratio is capped here, at TAN_LIMIT / PI.
-pub fn ratio_at(octaves: f32, reference: Ratio) -> Ratio
-    ensures { λ r. ⌜ r ≡ ratioAt octaves reference ⌝ }
+// The highest cutoff a stage runs at, in cycles per sample.
+const RATIO_LIMIT: f32 = 0.49 * PI / PI;
+
+// A ratio held just below Nyquist, and whether it was greater before.
+pub struct Capped {
+    pub ratio: Ratio,
+    pub over: bool,
+}
+
+// The ratio of so many octaves above the reference. Every ratio is capped, and judged, here.
+pub fn capped_at(octaves: f32, reference: Ratio) -> Capped
+    ensures { λ r. ⌜ r ≡ cappedAt octaves reference ⌝ }
 {
-    Ratio(lane::min(lane::exp2(octaves) * reference.0, 0.49 * PI / PI))
+    let ratio = lane::exp2(octaves) * reference.0;
+    Capped {
+        ratio: Ratio(lane::min(ratio, RATIO_LIMIT)),
+        over: RATIO_LIMIT < ratio,
+    }
+}
+
+// A mark, counted.
+pub fn once(over: bool) -> u32
+    ensures { λ r. ⌜ r ≡ once over ⌝ }
+{
+    if over { 1 } else { 0 }
 }
 
 // The cutoff, as a fraction of the sample rate, of a pitch.
+pub fn capped_of(pitch: Pitch, reference: Ratio) -> Capped
+    ensures { λ r. ⌜ r ≡ cappedOf pitch reference ⌝ }
+{
+    capped_at(octaves_of(pitch), reference)
+}
+
 pub fn ratio_of(pitch: Pitch, reference: Ratio) -> Ratio
     ensures { λ r. ⌜ r ≡ ratioOf pitch reference ⌝ }
 {
-    ratio_at(octaves_of(pitch), reference)
+    capped_of(pitch, reference).ratio
+}
+
+// Whether a pitch's ratio was greater than the cap.
+pub fn over_of(pitch: Pitch, reference: Ratio) -> bool
+    ensures { λ r. ⌜ r ≡ overOf pitch reference ⌝ }
+{
+    capped_of(pitch, reference).over
 }
 
 // The prewarped integrator gain of a ratio.
@@ -45,11 +80,27 @@ pub fn gain_at(ratio: Ratio) -> f32
     lane::tan(ratio.0 * PI)
 }
 
+// A pitch's gain, and whether its ratio was greater than the cap.
+pub struct JudgedGain {
+    pub g: f32,
+    pub over: bool,
+}
+
 // The prewarped integrator gain of a pitch.
+pub fn judged_gain(pitch: Pitch, reference: Ratio) -> JudgedGain
+    ensures { λ r. ⌜ r ≡ judgedGain pitch reference ⌝ }
+{
+    let c = capped_of(pitch, reference);
+    JudgedGain {
+        g: gain_at(c.ratio),
+        over: c.over,
+    }
+}
+
 pub fn gain(pitch: Pitch, reference: Ratio) -> f32
     ensures { λ r. ⌜ r ≡ gainOf pitch reference ⌝ }
 {
-    gain_at(ratio_of(pitch, reference))
+    judged_gain(pitch, reference).g
 }
 
 // A state-variable stage's outputs, and its two states after them.

@@ -39,13 +39,14 @@ module _ (s : Setup) (ok : setupCheckOf (soloOf s) (s .voices) ≡ fine) (b : Ba
 
   -- a mono block, unsteered, of 1 to 4,096 frames
   block-fine : (q : Block) → 1 ≤ q .frames → q .frames ≤ 4096 → q .steered ≡ false → length (q .pitch) ≡ q .frames * s .voices → length (q .x) ≡ 0 → length (q .y) ≡ 0 → length (q .audio) ≡ q .frames * (s .channels * s .voices)
+      → length (q .counts) ≡ s .channels * s .voices
       → verdict (engine s) (s .voices) (callBlock q) b ≡ fine
   unfolding check _then_
-  block-fine q lo hi st p x y a =
-      rw (ok, eq-eqb _ _ (l .targets), eq-eqb _ _ (l .records), eq-eqb _ _ (l .delay), le-leb 1 (q .frames) lo, le-leb (q .frames) 4096 hi, st, eq-eqb _ _ p, eq-eqb _ _ x, eq-eqb _ _ y, eq-eqb _ _ a)
+  block-fine q lo hi st p x y a m =
+      rw (ok, eq-eqb _ _ (l .targets), eq-eqb _ _ (l .records), eq-eqb _ _ (l .delay), le-leb 1 (q .frames) lo, le-leb (q .frames) 4096 hi, st, eq-eqb _ _ p, eq-eqb _ _ x, eq-eqb _ _ y, eq-eqb _ _ a, eq-eqb _ _ m)
 
 -- an answer `kept 0` leaves cursor 0
-kept-zero : (r : CodeAnswer) → answerOf r [] ≡ kept 0 → cursorOf r 0 ≡ 0
+kept-zero : (r : CodeAnswer) → answerOf r [] [] ≡ kept 0 → cursorOf r 0 ≡ 0
 unfolding answerOf cursorOf
 kept-zero (Refused k) e = cc
 kept-zero (Kept cur) e = cc
@@ -59,21 +60,23 @@ module _ (s : Setup) (tg₀ rs₀ ds₀ : List Float) (r : CodeAnswer) (s' : Set
   pub opened-bank : openVerdict (engine s) (s .voices) (bankOf tg₀ rs₀ ds₀ 0) ≡ fine → OpenDoes s (bankOf tg₀ rs₀ ds₀ 0) r s' tg rs ds → bankOf tg rs ds 0 ≡ openOf (engine s) (s .voices) (bankOf tg₀ rs₀ ds₀ 0)
   unfolding first
   opened-bank ok d =
-      let e : after r 0 tg rs ds [] ≡ openBy fine s (bankOf tg₀ rs₀ ds₀ 0) = rw ok at (d .does) in
+      let e : after r 0 tg rs ds [] [] ≡ openBy fine s (bankOf tg₀ rs₀ ds₀ 0) = rw ok at (d .does) in
       let k : cursorOf r 0 ≡ 0 = kept-zero r (ap (λ (w : Run). first (w .log)) e) in
       ap (λ (n : ℕ). bankOf tg rs ds n) (sym k) ∙ ap (λ (w : Run). w .bank) e
 
-rendered-audio : (r : CodeAnswer) (audio left : List Float) (cur f : ℕ) → answerOf r audio ≡ rendered cur f left → audio ≡ left
+rendered-audio : (r : CodeAnswer) (audio left : List Float) (counts over : List ℕ) (cur f : ℕ)
+    → answerOf r audio counts ≡ rendered cur f left over → audio ≡ left
 unfolding answerOf
-rendered-audio (Refused k) audio left cur f e = cc
-rendered-audio (Kept c) audio left cur f e = cc
-rendered-audio (Rendered c g) audio left cur f e = cc
+rendered-audio (Refused k) audio left counts over cur f e = cc
+rendered-audio (Kept c) audio left counts over cur f e = cc
+rendered-audio (Rendered c g) audio left counts over cur f e = cc
 
-pub block-audio : (s : Setup) (q : Block) (b : Bank) (r : CodeAnswer) (rs ds audio : List Float) → verdict (engine s) (s .voices) (callBlock q) b ≡ fine → BlockDoes s q b r rs ds audio → audio ≡ blockOf (engine s) (s .voices) q b .audio
+pub block-audio : (s : Setup) (q : Block) (b : Bank) (r : CodeAnswer) (rs ds audio : List Float) (counts : List ℕ)
+    → verdict (engine s) (s .voices) (callBlock q) b ≡ fine → BlockDoes s q b r rs ds audio counts → audio ≡ blockOf (engine s) (s .voices) q b .audio
 unfolding first
-block-audio s q b r rs ds audio ok d =
-    let e : after r (b .cursor) (b .targets) rs ds audio ≡ record { bank = record { targets = b .targets; records = blockOf (engine s) (s .voices) q b .records; delay = blockOf (engine s) (s .voices) q b .delay; cursor = cursorAfter (engine s) (b .cursor) (q .frames) }; log = rendered (cursorAfter (engine s) (b .cursor) (q .frames)) (q .frames) (blockOf (engine s) (s .voices) q b .audio) ∷ [] } = rw ok at (d .does) in
-    rendered-audio r audio _ _ _ (ap (λ (w : Run). first (w .log)) e)
+block-audio s q b r rs ds audio counts ok d =
+    let e : after r (b .cursor) (b .targets) rs ds audio counts ≡ record { bank = record { targets = b .targets; records = blockOf (engine s) (s .voices) q b .records; delay = blockOf (engine s) (s .voices) q b .delay; cursor = cursorAfter (engine s) (b .cursor) (q .frames) }; log = rendered (cursorAfter (engine s) (b .cursor) (q .frames)) (q .frames) (blockOf (engine s) (s .voices) q b .audio) (blockOf (engine s) (s .voices) q b .counts) ∷ [] } = rw ok at (d .does) in
+    rendered-audio r audio _ counts _ _ _ (ap (λ (w : Run). first (w .log)) e)
 
 -- the two calls on lists of zeros, at a setup of the program
 module _ (code rate : ℕ) (ds₀ pitch audio : List Float) (a : Accepted code rate (length audio)) (hd : length ds₀ ≡ ringLen (rateOf rate)) (hp : length pitch ≡ length audio) where
@@ -81,19 +84,19 @@ module _ (code rate : ℕ) (ds₀ pitch audio : List Float) (a : Accepted code r
   unfolding impulseSetup
   open-lengths = record { targets = silence-length 10; records = silence-length 30; delay = omega arith }
 
-  pub rendered-is : (tg rs ds rs' ds' left : List Float) (r r' : CodeAnswer) (s' : Setup)
+  pub rendered-is : (tg rs ds rs' ds' left : List Float) (over : List ℕ) (r r' : CodeAnswer) (s' : Setup)
       → length tg ≡ 10 → length rs ≡ 30 → length ds ≡ length ds₀
       → OpenDoes (impulseSetup code rate) (bankOf (silence targetsWidth) (silence recordWidth) ds₀ 0) r s' tg rs ds
-      → BlockDoes (impulseSetup code rate) (blockFrom (length audio) pitch false [] [] audio) (bankOf tg rs ds 0) r' rs' ds' left
+      → BlockDoes (impulseSetup code rate) (blockFrom (length audio) pitch false [] [] audio (0 ∷ [])) (bankOf tg rs ds 0) r' rs' ds' left over
       → left ≡ renderedOf code rate ds₀ pitch audio
   unfolding impulseSetup renderedOf
-  rendered-is tg rs ds rs' ds' left r r' s' ht hr hs o b =
+  rendered-is tg rs ds rs' ds' left over r r' s' ht hr hs o b =
       let s = impulseSetup code rate in
-      let q = blockFrom (length audio) pitch false [] [] audio in
+      let q = blockFrom (length audio) pitch false [] [] audio (0 ∷ []) in
       let l : Lengths (engine s) 1 (bankOf tg rs ds 0) = record { targets = ht; records = hr; delay = omega arith } in
-      let f : verdict (engine s) 1 (callBlock q) (bankOf tg rs ds 0) ≡ fine = block-fine s (a .setup) (bankOf tg rs ds 0) l q (a .some-frame) (a .most) refl (omega arith) refl refl (omega arith) in
+      let f : verdict (engine s) 1 (callBlock q) (bankOf tg rs ds 0) ≡ fine = block-fine s (a .setup) (bankOf tg rs ds 0) l q (a .some-frame) (a .most) refl (omega arith) refl refl (omega arith) refl in
       let e : bankOf tg rs ds 0 ≡ openOf (engine s) 1 (bankOf (silence targetsWidth) (silence recordWidth) ds₀ 0) = opened-bank s _ _ ds₀ r s' tg rs ds (open-fine s (a .setup) (bankOf (silence targetsWidth) (silence recordWidth) ds₀ 0) open-lengths) o in
-      block-audio s q (bankOf tg rs ds 0) r' rs' ds' left f b ∙ ap (λ (w : Bank). blockOf (engine s) 1 q w .audio) e
+      block-audio s q (bankOf tg rs ds 0) r' rs' ds' left over f b ∙ ap (λ (w : Bank). blockOf (engine s) 1 q w .audio) e
 
 -- ---- parts of lists of one number
 

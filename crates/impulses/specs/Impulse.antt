@@ -104,12 +104,12 @@ silence n = replicate n zero
 unfoldable pub impulseOf : ℕ → List Float
 impulseOf frames = one ∷ silence (frames - 1)
 
--- the audio that a bank of one voice leaves, opened on zeroed lists with the given delay
+-- the audio that a bank of one voice leaves, opened on zeroed lists with the given delay; its one count (C-11) is not printed
 unfoldable pub renderedOf : (code rate : ℕ) (delay pitch audio : List Float) → List Float
 renderedOf code rate delay pitch audio =
     let s = impulseSetup code rate in
     let opened = openOf (engine s) 1 (bankOf (silence targetsWidth) (silence recordWidth) delay 0) in
-    blockOf (engine s) 1 (blockFrom (length audio) pitch false [] [] audio) opened .audio
+    blockOf (engine s) 1 (blockFrom (length audio) pitch false [] [] audio (0 ∷ [])) opened .audio
 
 unfoldable pub responseOf : (code rate frames : ℕ) → List Float
 responseOf code rate frames = renderedOf code rate (silence (ringLen (rateOf rate))) (steadyPitch frames) (impulseOf frames)

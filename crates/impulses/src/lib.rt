@@ -230,7 +230,7 @@ fn steady_pitch() -> [f32; 4096]
     [69.0; 4096]
 }
 
-// Opens the voice on lists of zeros with the lent delay, and renders the audio in place.
+// Opens the voice on lists of zeros with the lent delay, and renders the audio in place. The one slot's count (C-11) is not read.
 fn render(code: u32, rate: u32, delay: &mut [f32], pitch: &[f32], audio: &mut [f32])
     requires { ⌜ Renderable code rate (now delay) (now pitch) (now audio) ⌝ }
     ensures { λ _. ⌜ now (audio .exit) ≡ renderedOf code rate (now (delay .entry)) (now (pitch .entry)) (now (audio .entry)) ⌝ }
@@ -239,6 +239,7 @@ fn render(code: u32, rate: u32, delay: &mut [f32], pitch: &[f32], audio: &mut [f
     let frames = audio.len();
     let mut targets = silent_targets();
     let mut records = silent_record();
+    let mut counts = [0u32; 1];
     bank::open(setup, &mut targets, &mut records, delay);
     bank::block(
         setup,
@@ -252,6 +253,7 @@ fn render(code: u32, rate: u32, delay: &mut [f32], pitch: &[f32], audio: &mut [f
         &pitch[0..0],
         &pitch[0..0],
         audio,
+        &mut counts,
     );
 }
 

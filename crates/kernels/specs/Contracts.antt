@@ -15,7 +15,7 @@ use Rattle.pole_zero.specs.declared.Table.{Table}
 use Rattle.poles.specs.declared.Series.{Series}
 use Rattle.poles.specs.Numbers.{poleNumbers}
 use Rattle.kernels.specs.Kernels.{Kernel, kernelOf}
-use Rattle.kernels.specs.Tuning.{tuningOf, keyOf}
+use Rattle.kernels.specs.Tuning.{tuningOf, tunedOver, blendedOver, keyOf}
 
 -- a table of its sections and the rest
 abbrev pub tableWith : Series → (sections : List Float) → Table
@@ -23,14 +23,19 @@ tableWith s sections = record { active = s .active; sections = sections; gain = 
 
 -- ---- what is kept from frame to frame
 
--- a kept list: unless its pitch is NaN, its numbers are those of its pitch and character
-unfoldable pub Kept : (code : ℕ) → Ratio → (tuning : List Float) → Type 0
-Kept code reference t = isNan (t ‼ 8) ≡ false → t ≡ tuningOf code (record { 0 = t ‼ 8 }) (keyOf reference (t ‼ 9))
+-- a kept list and count: unless the list's pitch is NaN, they are those of its pitch and character
+unfoldable pub Kept : (code : ℕ) → Ratio → (tuning : List Float) (over : ℕ) → Type 0
+Kept code reference t over =
+    isNan (t ‼ 8) ≡ false
+    → (t ≡ tuningOf code (record { 0 = t ‼ 8 }) (keyOf reference (t ‼ 9)))
+    × (over ≡ tunedOver code (record { 0 = t ‼ 8 }) (keyOf reference (t ‼ 9)) over)
 
--- PoleZero's kept list: unless its pitch is NaN, its numbers are those of its pitch, x and y
-unfoldable pub KeptSections : (sections : List Float) (active : ℕ) → Ratio → (blended : List Float) → Type 0
-KeptSections sections active reference t =
-    isNan (t ‼ 40) ≡ false → t ≡ poleNumbers sections active reference (record { 0 = t ‼ 40 }) (t ‼ 41) (t ‼ 42)
+-- PoleZero's: unless the list's pitch is NaN, they are those of its pitch, x and y
+unfoldable pub KeptSections : (code : ℕ) (sections : List Float) (active : ℕ) → Ratio → (blended : List Float) (over : ℕ) → Type 0
+KeptSections code sections active reference t over =
+    isNan (t ‼ 40) ≡ false
+    → (t ≡ poleNumbers sections active reference (record { 0 = t ‼ 40 }) (t ‼ 41) (t ‼ 42))
+    × (over ≡ blendedOver code sections active reference (record { 0 = t ‼ 40 }) (t ‼ 41) (t ‼ 42) over)
 
 -- a list's key is this one, and no NaN
 pub record TunedAt (t : List Float) (pitch character : Float) : Type 0 where

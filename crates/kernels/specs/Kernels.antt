@@ -1,20 +1,21 @@
--- The structure's kernel, chosen by its code (document 01, A bank is opened: the table of structure codes).
+-- The structure's kernel, chosen by its code (document 01, A bank is opened: the table of structure codes; document 02, C-11).
 -- Definitions only. Assumes nothing.
-use Prim.Native.Nat.{ℕ}
+use Prim.Native.Nat.{ℕ, _+_}
 use mathlib.Core.Bool.{cond}
 use mathlib.Core.List.{List}
 use lib.Dec.{eqb}
 use lib.Ieee.{Float}
 use Rattle.filter.specs.declared.Pitch.{Pitch}
+use Rattle.filter.specs.Filter.{octavesOf, overOf, once}
 use Rattle.extended.specs.declared.Settings.{Settings}
 use Rattle.extended.specs.Extended.{Ticked}
 use Rattle.pole_zero.specs.declared.Table.{Table}
-use Rattle.sweeps.specs.Sweeps.{buzzCoefficients, buzzStep, djCoefficients, djStep, diffuserCoefficients, diffuserStep}
+use Rattle.sweeps.specs.Sweeps.{buzzCoefficients, buzzStep, djCoefficients, djOver, djStep, diffuserCoefficients, diffuserStep}
 use Rattle.ladders.specs.Ladders.{transistorCoefficients, transistorStep, drivenCoefficients, drivenStep}
 use Rattle.ladders.specs.Ladders.{acidCoefficients, acidStep, cleanLadderCoefficients, cleanLadderStep}
 use Rattle.expanders.specs.Expanders.{expanderCoefficients, bandStep, multimodeWeights, multimodeStep, k35Coefficients, k35Step}
-use Rattle.poles.specs.Poles.{poleCoefficients, poleStep}
-use Rattle.combs.specs.Combs.{Combed, combCoefficients, combStep}
+use Rattle.poles.specs.Poles.{poleCoefficients, poleOver, poleStep}
+use Rattle.combs.specs.Combs.{Combed, combCoefficients, combOver, combStep}
 
 -- what a kernel leaves: its sample, its 20 states and its slot's ring
 pub record Kernel : Type 0 where
@@ -47,3 +48,12 @@ kernelOf code table len cursor pitch p state ring x =
     (cond (eqb code 11) (onStates ring (bandStep (expanderCoefficients pitch p) state x))
     (cond (eqb code 12) (onStates ring (k35Step (k35Coefficients pitch p) state x))
     (record { out = x; state = state; ring = ring }))))))))))))
+
+-- C-11: how often its tick judges a ratio greater than the cap. PoleZero judges once a section, Comb2 once at each of its two reads, any
+-- other kernel once a tick; the ratio that DjSweep caps is that of its own cutoff
+unfoldable pub overCount : (code : ℕ) → Table → Pitch → Settings → ℕ
+overCount code table pitch p =
+    cond (eqb code 8) (poleOver (table .sections) (table .active) (p .x) (p .y) (octavesOf pitch) (p .«ref_over_rate»))
+    (cond (eqb code 9) (once (combOver pitch p) + once (combOver pitch p))
+    (cond (eqb code 2) (once (djOver pitch p))
+    (once (overOf pitch (p .«ref_over_rate»)))))

@@ -1,25 +1,29 @@
 -- For the proofs: nothing here must be believed.
--- A kernel keeps its states' number and its ring's length, whatever the structure. Assumes nothing.
+-- A kernel keeps its states' number and its ring's length, and its tick judges at most eight ratios, whatever the structure.
+-- Assumes nothing.
 use mathlib.Core.Path.{_≡_, refl}
-use Prim.Native.Nat.{ℕ, min}
+use Prim.Native.Nat.{ℕ, suc, _+_, _≤_, min, zero-le}
+use native.Mathlib.Omega.{arith}
 use mathlib.Core.Bool.{Bool, true, false, cond}
 use mathlib.Core.List.{List}
 use lib.Dec.{eqb}
 use lib.ListN.{length, length-set}
 use lib.Seq.{length-sets}
 use lib.Ieee.{Float}
-use Rattle.parts.specs.Laws.{upto-keep}
-use Rattle.lane.specs.Floats.{zero}
+use Rattle.parts.specs.Parts.{upto}
+use Rattle.parts.specs.Laws.{upto-keep, upto-count}
+use Rattle.lane.specs.Floats.{_⊕_, zero}
 use Rattle.lines.specs.Lines.{ringWrite}
 use Rattle.pole_zero.specs.declared.Table.{Table}
 use Rattle.filter.specs.declared.Pitch.{Pitch}
+use Rattle.filter.specs.Filter.{octavesOf, overAt, overOf, once}
 use Rattle.extended.specs.declared.Settings.{Settings}
 use Rattle.extended.specs.Extended.{Ticked}
 use Rattle.sweeps.specs.declared.BuzzMorph.{BuzzMorph}
 use Rattle.sweeps.specs.declared.DjSweep.{DjSweep}
 use Rattle.sweeps.specs.declared.Diffuser.{Diffuser}
 use Rattle.sweeps.specs.declared.Diffused.{Diffused}
-use Rattle.sweeps.specs.Sweeps.{buzzCoefficients, buzzStep, djCoefficients, djStep, diffuseStage, diffuserCoefficients, diffuserStep}
+use Rattle.sweeps.specs.Sweeps.{buzzCoefficients, buzzStep, djCoefficients, djOver, djStep, diffuseStage, diffuserCoefficients, diffuserStep}
 use Rattle.stages.specs.declared.Stages.{Stages}
 use Rattle.stages.specs.declared.Five.{Five}
 use Rattle.ladders.specs.declared.TransistorLadder.{TransistorLadder}
@@ -32,10 +36,10 @@ use Rattle.ladders.specs.Ladders.{transistorCoefficients, transistorStep, drive
 use Rattle.ladders.specs.Ladders.{acidCoefficients, acidStep, cleanLadderCoefficients, cleanLadderStep}
 use Rattle.expanders.specs.Expanders.{expanderCoefficients, bandStep, multimodeWeights, multimodeStep, k35Coefficients, k35Step}
 use Rattle.poles.specs.declared.PoleSection.{PoleSection}
-use Rattle.poles.specs.Poles.{poleCoefficients, poleStage, poleSeries, poleStep}
+use Rattle.poles.specs.Poles.{term, blendOf, poleCoefficients, sectionOver, poleOver, poleStage, poleSeries, poleStep}
 use Rattle.combs.specs.declared.Comb2.{Comb2}
-use Rattle.combs.specs.Combs.{combCoefficients, combStep}
-use Rattle.kernels.specs.Kernels.{Kernel, onStates, kernelOf}
+use Rattle.combs.specs.Combs.{combCoefficients, combOver, combStep}
+use Rattle.kernels.specs.Kernels.{Kernel, onStates, kernelOf, overCount}
 
 -- ---- the states of each kernel are as many as they were
 
@@ -137,3 +141,29 @@ module _ (code : ℕ) (table : Table) (len cursor : ℕ) (pitch : Pitch) (p : Se
       (one-of 11 (bandStep _ state x) (band-length state x (expanderCoefficients pitch p)) _
       (one-of 12 (k35Step _ state x) (k35-length state x (k35Coefficients pitch p)) _
       (record { states = refl; cells = refl }))))))))))))
+
+-- ---- a tick judges at most eight ratios
+
+once-most : (b : Bool) → once b ≤ 1
+once-most true = omega arith
+once-most false = omega arith
+
+sections-most : (m : ℕ → ℕ) → ((j : ℕ) → m j ≤ 1) → (n : ℕ) → upto (λ j t. t + m j) n 0 ≤ n
+sections-most m h n = upto-count (λ (k t : ℕ). t ≤ k) (λ j t. t + m j) n 0 (λ k t l e. omega (arith, h k)) zero-le
+
+at-most : (b : Bool) (x y : ℕ) → x ≤ 8 → y ≤ 8 → cond b x y ≤ 8
+at-most true x y hx hy = hx
+at-most false x y hx hy = hy
+
+pub over-most : (code : ℕ) (table : Table) (pitch : Pitch) (p : Settings) → overCount code table pitch p ≤ 8
+unfolding overCount poleOver sectionOver
+over-most code table pitch p =
+    let comb = once-most (combOver pitch p) in
+    let sweep = once-most (djOver pitch p) in
+    let other = once-most (overOf pitch (p .«ref_over_rate»)) in
+    let poles = sections-most
+    (λ j. once (overAt (octavesOf pitch ⊕ blendOf (table .sections) (term j 0) (p .x) (p .y)) (p .«ref_over_rate»)))
+    (λ j. once-most (overAt (octavesOf pitch ⊕ blendOf (table .sections) (term j 0) (p .x) (p .y)) (p .«ref_over_rate»)))
+    (min (table .active) 8) in
+    at-most (eqb code 8) _ _ (omega (arith, poles))
+    (at-most (eqb code 9) _ _ (omega (arith, comb)) (at-most (eqb code 2) _ _ (omega (arith, sweep)) (omega (arith, other))))

@@ -1,8 +1,9 @@
 -- For the proofs: nothing here must be believed.
 -- What a kernel has of the pitch and the character alone, kept from frame to frame: a list of ten numbers, of which the last two
--- are the pitch and the character that the first eight follow from. PoleZero has a list of its own, of the pitch, x and y.
+-- are the pitch and the character that the first eight follow from. PoleZero has a list of its own, of the pitch, x and y. With them is
+-- kept how often a tick at those numbers judges a ratio greater than its cap.
 -- Definitions only. Assumes nothing.
-use Prim.Native.Nat.{ℕ}
+use Prim.Native.Nat.{ℕ, _+_}
 use mathlib.Core.Bool.{cond}
 use mathlib.Core.List.{List, _∷_, []}
 use lib.Dec.{eqb}
@@ -10,10 +11,10 @@ use lib.Ieee.{Float}
 use Rattle.lane.specs.Floats.{_‼_, zero}
 use Rattle.filter.specs.declared.Pitch.{Pitch}
 use Rattle.filter.specs.declared.Ratio.{Ratio}
-use Rattle.filter.specs.Filter.{gainOf}
+use Rattle.filter.specs.Filter.{octavesOf, gainOf, overOf, once}
 use Rattle.extended.specs.declared.Settings.{Settings}
 use Rattle.sweeps.specs.declared.DjSweep.{DjSweep}
-use Rattle.sweeps.specs.Sweeps.{djCoefficients}
+use Rattle.sweeps.specs.Sweeps.{djCoefficients, djOver}
 use Rattle.stages.specs.declared.Five.{Five}
 use Rattle.ladders.specs.declared.DrivenLadder.{DrivenLadder}
 use Rattle.ladders.specs.declared.Rows.{Rows}
@@ -22,7 +23,8 @@ use Rattle.expanders.specs.declared.Expander.{Expander}
 use Rattle.expanders.specs.declared.K35.{K35}
 use Rattle.expanders.specs.Expanders.{expanderCoefficients, multimodeWeights, k35Coefficients, expanderWith}
 use Rattle.combs.specs.declared.Comb2.{Comb2}
-use Rattle.combs.specs.Combs.{combCoefficients}
+use Rattle.combs.specs.Combs.{combCoefficients, combOver}
+use Rattle.poles.specs.Poles.{poleOver}
 use Rattle.poles.specs.Numbers.{poleNumbers}
 use Rattle.kernels.specs.declared.tuning.Numbers.{Numbers}
 
@@ -51,19 +53,32 @@ multimodeNumbers c w = record { 0 = c .gg; 1 = c .h; 2 = c .gg4; 3 = w .0; 4 = w
 unfoldable pub k35Numbers : K35 → Numbers
 k35Numbers c = threeNumbers (c .gg) (c .h) (c .w)
 
+-- of a structure whose numbers follow from the pitch's gain
+unfoldable pub gainNumbers : (code : ℕ) → Pitch → Settings → Numbers
+gainNumbers code pitch p =
+    cond (eqb code 5) (rowNumbers (diodeRows (gainOf pitch (p .«ref_over_rate»))))
+    (cond (eqb code 6) (rowNumbers (diodeRows (gainOf pitch (p .«ref_over_rate»))))
+    (cond (eqb code 7) (drivenNumbers (drivenCoefficients pitch p))
+    (cond (eqb code 10) (multimodeNumbers (expanderCoefficients pitch p) (multimodeWeights (p .character)))
+    (cond (eqb code 11) (bandNumbers (expanderCoefficients pitch p))
+    (cond (eqb code 12) (k35Numbers (k35Coefficients pitch p))
+    (threeNumbers (gainOf pitch (p .«ref_over_rate»)) zero zero))))))
+
 -- by the structure's code; PoleZero keeps its sections' numbers apart
 unfoldable pub numbersOf : (code : ℕ) → Pitch → Settings → Numbers
 numbersOf code pitch p =
     cond (eqb code 2) (djNumbers (djCoefficients pitch p))
-    (cond (eqb code 5) (rowNumbers (diodeRows (gainOf pitch (p .«ref_over_rate»))))
-    (cond (eqb code 6) (rowNumbers (diodeRows (gainOf pitch (p .«ref_over_rate»))))
-    (cond (eqb code 7) (drivenNumbers (drivenCoefficients pitch p))
     (cond (eqb code 8) (threeNumbers zero zero zero)
     (cond (eqb code 9) (combNumbers (combCoefficients pitch p))
-    (cond (eqb code 10) (multimodeNumbers (expanderCoefficients pitch p) (multimodeWeights (p .character)))
-    (cond (eqb code 11) (bandNumbers (expanderCoefficients pitch p))
-    (cond (eqb code 12) (k35Numbers (k35Coefficients pitch p))
-    (threeNumbers (gainOf pitch (p .«ref_over_rate»)) zero zero)))))))))
+    (gainNumbers code pitch p)))
+
+-- how often a tick judges a ratio greater than its cap; PoleZero's number stays as it was
+unfoldable pub tunedOver : (code : ℕ) → Pitch → Settings → (before : ℕ) → ℕ
+tunedOver code pitch p before =
+    cond (eqb code 8) before
+    (cond (eqb code 9) (once (combOver pitch p) + once (combOver pitch p))
+    (cond (eqb code 2) (once (djOver pitch p))
+    (once (overOf pitch (p .«ref_over_rate»)))))
 
 -- the list
 unfoldable pub tuningOf : (code : ℕ) → Pitch → Settings → List Float
@@ -97,3 +112,6 @@ keyOf reference character =
 -- PoleZero's list at a pitch and settings; any other structure leaves it as it was
 unfoldable pub blendedOf : (code : ℕ) (sections : List Float) (active : ℕ) → Pitch → Settings → List Float → List Float
 blendedOf code sections active pitch p t = cond (eqb code 8) (poleNumbers sections active (p .«ref_over_rate») pitch (p .x) (p .y)) t
+
+unfoldable pub blendedOver : (code : ℕ) (sections : List Float) (active : ℕ) → Ratio → Pitch → (x y : Float) → (before : ℕ) → ℕ
+blendedOver code sections active reference pitch x y before = cond (eqb code 8) (poleOver sections active x y (octavesOf pitch) reference) before

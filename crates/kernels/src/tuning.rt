@@ -3,8 +3,13 @@
 ghost use mathlib.Core.Path.{_≡_};
 ghost use mathlib.Core.Bool.{true, false};
 ghost use lib.Ieee.{isNan};
+ghost use Prim.Native.Nat.{_+_};
+ghost use Rattle.filter.specs.Filter.{gainOf, overOf, once};
+ghost use Rattle.sweeps.specs.Sweeps.{djCoefficients, djOver};
+ghost use Rattle.combs.specs.Combs.{combCoefficients, combOver};
 ghost use Rattle.kernels.specs.Tuning.{threeNumbers, djNumbers, rowNumbers, drivenNumbers, combNumbers, bandNumbers};
-ghost use Rattle.kernels.specs.Tuning.{multimodeNumbers, k35Numbers, numbersOf, tuningOf, keyOf, blendedOf};
+ghost use Rattle.kernels.specs.Tuning.{multimodeNumbers, k35Numbers, gainNumbers, numbersOf, tuningOf, tunedOver, keyOf};
+ghost use Rattle.kernels.specs.Tuning.{blendedOf, blendedOver};
 ghost use Rattle.kernels.specs.Contracts.{Kept, KeptSections, TunedAt, BlendedAt};
 use combs::Comb2;
 use expanders::Expander;
@@ -78,24 +83,75 @@ fn k35_numbers(c: K35) -> Numbers
     three_numbers(c.gg, c.h, c.w)
 }
 
-fn numbers_of(code: u32, pitch: Pitch, p: Settings) -> Numbers
-    ensures { λ r. ⌜ r ≡ numbersOf code pitch p ⌝ }
+// The numbers of a structure whose numbers follow from the pitch's gain.
+fn gain_numbers(code: u32, g: f32, p: Settings) -> Numbers
+    ensures { λ r. ⌜ ((pitch : Pitch) → g ≡ gainOf pitch (p .«ref_over_rate») → r ≡ gainNumbers code pitch p) ⌝ }
 {
-    let reference = p.ref_over_rate;
     match code {
-        2 => dj_numbers(sweeps::dj_coefficients(pitch, p)),
-        5 => row_numbers(ladders::diode_rows(filter::gain(pitch, reference))),
-        6 => row_numbers(ladders::diode_rows(filter::gain(pitch, reference))),
-        7 => driven_numbers(ladders::driven_coefficients(pitch, p)),
-        8 => three_numbers(0.0, 0.0, 0.0),
-        9 => comb_numbers(combs::comb_coefficients(pitch, p)),
+        5 => row_numbers(ladders::diode_rows(g)),
+        6 => row_numbers(ladders::diode_rows(g)),
+        7 => driven_numbers(ladders::driven_coefficients(g, p)),
         10 => multimode_numbers(
-            expanders::expander_coefficients(pitch, p),
+            expanders::expander_coefficients(g, p),
             expanders::multimode_weights(p.character),
         ),
-        11 => band_numbers(expanders::expander_coefficients(pitch, p)),
-        12 => k35_numbers(expanders::k35_coefficients(pitch, p)),
-        _ => three_numbers(filter::gain(pitch, reference), 0.0, 0.0),
+        11 => band_numbers(expanders::expander_coefficients(g, p)),
+        12 => k35_numbers(expanders::k35_coefficients(g, p)),
+        _ => three_numbers(g, 0.0, 0.0),
+    }
+}
+
+// A structure's numbers, and how often a tick at them judges a ratio greater than its cap.
+pub struct JudgedNumbers {
+    pub numbers: Numbers,
+    pub over: u32,
+}
+
+fn judged_sweep(pitch: Pitch, p: Settings) -> JudgedNumbers
+    ensures { λ r. ⌜ (r .numbers ≡ djNumbers (djCoefficients pitch p)) × (r .over ≡ once (djOver pitch p)) ⌝ }
+{
+    let c = sweeps::dj_coefficients(pitch, p);
+    JudgedNumbers {
+        numbers: dj_numbers(c.sweep),
+        over: filter::once(c.over),
+    }
+}
+
+// Each of the two reads judges.
+fn judged_comb(pitch: Pitch, p: Settings) -> JudgedNumbers
+    ensures { λ r. ⌜ (r .numbers ≡ combNumbers (combCoefficients pitch p)) × (r .over ≡ once (combOver pitch p) + once (combOver pitch p)) ⌝ }
+{
+    let c = filter::capped_of(pitch, p.reference_ratio);
+    let ratio = c.ratio;
+    let over = filter::once(c.over);
+    JudgedNumbers {
+        numbers: comb_numbers(combs::comb_coefficients(ratio.0, p)),
+        over: over + over,
+    }
+}
+
+fn judged_gain(code: u32, pitch: Pitch, p: Settings) -> JudgedNumbers
+    ensures { λ r. ⌜ (r .numbers ≡ gainNumbers code pitch p) × (r .over ≡ once (overOf pitch (p .«ref_over_rate»))) ⌝ }
+{
+    let c = filter::judged_gain(pitch, p.ref_over_rate);
+    JudgedNumbers {
+        numbers: gain_numbers(code, c.g, p),
+        over: filter::once(c.over),
+    }
+}
+
+// PoleZero's count, which follows from its sections, stays as it was.
+fn numbers_of(code: u32, pitch: Pitch, p: Settings, before: u32) -> JudgedNumbers
+    ensures { λ r. ⌜ (r .numbers ≡ numbersOf code pitch p) × (r .over ≡ tunedOver code pitch p before) ⌝ }
+{
+    match code {
+        2 => judged_sweep(pitch, p),
+        8 => JudgedNumbers {
+            numbers: three_numbers(0.0, 0.0, 0.0),
+            over: before,
+        },
+        9 => judged_comb(pitch, p),
+        _ => judged_gain(code, pitch, p),
     }
 }
 
@@ -122,18 +178,35 @@ fn is_tuned(tuning: &[f32; 10], pitch: f32, character: f32) -> bool
     false
 }
 
-// The numbers of a pitch and a character.
-fn tuned(code: u32, pitch: Pitch, p: Settings) -> [f32; 10]
-    ensures { λ r. ⌜ r ≡ tuningOf code pitch p ⌝ }
-{
-    let n = numbers_of(code, pitch, p);
-    [n.0, n.1, n.2, n.3, n.4, n.5, n.6, n.7, pitch.0, p.character]
+// The kept numbers of a pitch and a character.
+pub struct Tuning {
+    pub numbers: [f32; 10],
+    pub over: u32,
 }
 
-// Brings the kept numbers to this pitch and character.
-pub fn retune(code: u32, tuning: &mut [f32; 10], pitch: Pitch, reference: Ratio, character: f32)
-    requires { ⌜ Kept code reference (now tuning) ⌝ }
-    ensures { λ _. ⌜ now (tuning .exit) ≡ tuningOf code pitch (keyOf reference character) ⌝ }
+fn tuned(code: u32, pitch: Pitch, p: Settings, before: u32) -> Tuning
+    ensures { λ r. ⌜ (r .numbers ≡ tuningOf code pitch p) × (r .over ≡ tunedOver code pitch p before) ⌝ }
+{
+    let c = numbers_of(code, pitch, p, before);
+    let n = c.numbers;
+    Tuning {
+        numbers: [n.0, n.1, n.2, n.3, n.4, n.5, n.6, n.7, pitch.0, p.character],
+        over: c.over,
+    }
+}
+
+// Brings the kept numbers and count to this pitch and character.
+pub fn retune(
+    code: u32,
+    tuning: &mut [f32; 10],
+    over: &mut u32,
+    pitch: Pitch,
+    reference: Ratio,
+    character: f32,
+)
+    requires { ⌜ Kept code reference (now tuning) (now over) ⌝ }
+    ensures { λ _. ⌜ (now (tuning .exit) ≡ tuningOf code pitch (keyOf reference character))
+        × (now (over .exit) ≡ tunedOver code pitch (keyOf reference character) (now (over .entry))) ⌝ }
 {
     if is_tuned(tuning, pitch.0, character) {
         return;
@@ -150,8 +223,11 @@ pub fn retune(code: u32, tuning: &mut [f32; 10], pitch: Pitch, reference: Ratio,
             ref_over_rate: reference,
             reference_ratio: reference,
         },
+        *over,
     );
-    *tuning = next;
+    let numbers = next.numbers;
+    *tuning = numbers;
+    *over = next.over;
 }
 
 // Whether the kept numbers of the sections are those of this pitch, X and Y.
@@ -166,17 +242,19 @@ fn is_blended(blended: &[f32; 43], pitch: f32, x: f32, y: f32) -> bool
     false
 }
 
-// Brings the sections' kept numbers to this pitch, X and Y. Only PoleZero (code 8) has sections.
+// Brings the sections' kept numbers and count to this pitch, X and Y. Only PoleZero (code 8) has sections.
 pub fn blend_sections(
     code: u32,
     blended: &mut [f32; 43],
+    over: &mut u32,
     sections: &[f32; 160],
     active: u32,
     pitch: Pitch,
     p: Settings,
 )
-    requires { ⌜ KeptSections (now sections) active (p .«ref_over_rate») (now blended) ⌝ }
-    ensures { λ _. ⌜ now (blended .exit) ≡ blendedOf code (now (sections .entry)) active pitch p (now (blended .entry)) ⌝ }
+    requires { ⌜ KeptSections code (now sections) active (p .«ref_over_rate») (now blended) (now over) ⌝ }
+    ensures { λ _. ⌜ (now (blended .exit) ≡ blendedOf code (now (sections .entry)) active pitch p (now (blended .entry)))
+        × (now (over .exit) ≡ blendedOver code (now (sections .entry)) active (p .«ref_over_rate») pitch (p .x) (p .y) (now (over .entry))) ⌝ }
 {
     if code != 8 {
         return;
@@ -185,5 +263,7 @@ pub fn blend_sections(
         return;
     }
     let next = poles::pole_numbers(sections, active, pitch, p);
-    *blended = next;
+    let numbers = next.numbers;
+    *blended = numbers;
+    *over = next.over;
 }

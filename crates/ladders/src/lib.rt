@@ -3,13 +3,14 @@
 ghost use mathlib.Core.Path.{_≡_};
 ghost use mathlib.Core.List.{List};
 ghost use lib.Ieee.{Float};
+ghost use Rattle.filter.specs.declared.Pitch.{Pitch};
+ghost use Rattle.filter.specs.Filter.{gainOf};
 ghost use Rattle.extended.specs.Extended.{ticked};
 ghost use Rattle.stages.specs.Contracts.{stagesOf};
 ghost use Rattle.ladders.specs.Ladders.{transistorWith, stageGain, stageGains, transistorSolve, transistorStep};
 ghost use Rattle.ladders.specs.Ladders.{drivenCoefficients, drivenWith, drivenStep};
 ghost use Rattle.ladders.specs.Ladders.{diodeRows, acidWith, cleanLadderWith, diodeSolve, diodeFeedback, acidStep, cleanLadderStep};
 use extended::Settings;
-use filter::Pitch;
 use stages::Four;
 use stages::Stages;
 
@@ -125,12 +126,11 @@ pub fn driven_with(g: f32, drive: f32, full: f32, p: Settings) -> DrivenLadder
     }
 }
 
-pub fn driven_coefficients(pitch: Pitch, p: Settings) -> DrivenLadder
-    ensures { λ r. ⌜ r ≡ drivenCoefficients pitch p ⌝ }
+// From the gain of a pitch.
+pub fn driven_coefficients(g: f32, p: Settings) -> DrivenLadder
+    ensures { λ r. ⌜ ((pitch : Pitch) → g ≡ gainOf pitch (p .«ref_over_rate») → r ≡ drivenCoefficients pitch p) ⌝ }
 {
-    let reference = p.ref_over_rate;
     let drive = lane::exp2(p.character * (DRIVEN_DB / 20.0 * LOG2_10));
-    let g = filter::gain(pitch, reference);
     driven_with(g, drive, lane::soft_clip(drive), p)
 }
 

@@ -147,10 +147,10 @@ fn design_at(s: &[u8], at: usize) -> DesignRead {
     }
 }
 
-// How many f32 a row of the names 0 to 14 takes.
+// How many f32 a row of the names 0 to 15 takes.
 fn inputs(name: usize) -> usize {
     match name {
-        0 | 1 | 8 | 10 | 11 => 2,
+        0 | 1 | 8 | 10 | 11 | 15 => 2,
         9 | 12 => 5,
         13 => 9,
         _ => 1,
@@ -221,12 +221,22 @@ fn put_targets(out: &mut [u8], at: usize, x: [f32; 9]) -> usize {
     put_floats(out, at, &t)
 }
 
-// The rows of names 0 to 14.
+// Whether the ratio of a pitch was greater than its cap, as 1 or 0.
+fn over_of(x: [f32; 9]) -> u64 {
+    if filter::over_of(Pitch(x[0]), Ratio(x[1])) {
+        1
+    } else {
+        0
+    }
+}
+
+// The rows of names 0 to 15.
 fn float_row(out: &mut [u8], at: usize, name: usize, x: [f32; 9], t: &[u8; 1024]) -> usize {
     match name {
         12 => put_svf(out, at, x),
         13 => put_targets(out, at, x),
         14 => text::put_decimal(out, at, lines::ring_len(x[0]) as u64),
+        15 => text::put_decimal(out, at, over_of(x)),
         _ => words::put_value(out, at, value_of(name, x, t)),
     }
 }
@@ -331,20 +341,20 @@ fn answer(
     at: usize,
 ) -> usize {
     match name {
-        0..=14 => floats_row(s, end, name, t, out, at),
-        15 => point_row(s, end, out, at),
-        16 => table_row(s, end, out, at),
-        17 => section_row(s, end, out, at),
-        18 => read_row(s, end, cells, out, at),
+        0..=15 => floats_row(s, end, name, t, out, at),
+        16 => point_row(s, end, out, at),
+        17 => table_row(s, end, out, at),
+        18 => section_row(s, end, out, at),
+        19 => read_row(s, end, cells, out, at),
         _ => 0,
     }
 }
 
-// The place of the row's name; 19 where it has none.
+// The place of the row's name; 20 where it has none.
 fn name_of(s: &[u8]) -> usize {
     words::name_at(
-        b"max min exp2 tan soft_clip sqrt log2 asym saturation_gain hermite ratio_of gain svf targets_of ring_len point table section read",
-        19,
+        b"max min exp2 tan soft_clip sqrt log2 asym saturation_gain hermite ratio_of gain svf targets_of ring_len over point table section read",
+        20,
         s,
         0,
     )

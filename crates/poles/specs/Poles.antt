@@ -10,7 +10,7 @@ use Rattle.lane.specs.Floats.{_⊕_, _⊖_, _⊗_, _‼_, fma}
 use Rattle.filter.specs.declared.Pitch.{Pitch}
 use Rattle.filter.specs.declared.Ratio.{Ratio}
 use Rattle.filter.specs.declared.Stage.{Stage}
-use Rattle.filter.specs.Filter.{octavesOf, ratioAt, gainAt, svfOf}
+use Rattle.filter.specs.Filter.{octavesOf, ratioAt, overAt, once, gainAt, svfOf}
 use Rattle.extended.specs.declared.Settings.{Settings}
 use Rattle.extended.specs.Extended.{Ticked}
 use Rattle.poles.specs.declared.PoleSection.{PoleSection}
@@ -35,9 +35,17 @@ poleSection sections x y transpose reference j =
       low = blendOf sections (term j 4) x y;
     }
 
+-- document 02, C-11: the mark of section j's ratio, counted
+unfoldable pub sectionOver : (sections : List Float) (x y transpose : Float) → Ratio → (j : ℕ) → ℕ
+sectionOver sections x y transpose reference j = once (overAt (transpose ⊕ blendOf sections (term j 0) x y) reference)
+
 -- what follows from the pitch and the settings alone: every section's numbers
 unfoldable pub poleCoefficients : (sections : List Float) → Pitch → Settings → (j : ℕ) → PoleSection
 poleCoefficients sections pitch p = poleSection sections (p .x) (p .y) (octavesOf pitch) (p .«ref_over_rate»)
+
+-- C-11: how many of the running sections' ratios were greater than their cap
+unfoldable pub poleOver : (sections : List Float) (active : ℕ) (x y transpose : Float) → Ratio → ℕ
+poleOver sections active x y transpose reference = upto (λ j n. n + sectionOver sections x y transpose reference j) (min active 8) 0
 
 unfoldable pub poleMix : PoleSection → (u : Float) → Stage → Float
 poleMix c u s =

@@ -1,9 +1,10 @@
 // The pole-zero filter: a table's active sections in series, each a state-variable stage whose frequency, damping and output mix are
 // blended at this sample's X and Y, then the overall gain.
 ghost use mathlib.Core.Path.{_≡_};
-ghost use Prim.Native.Nat.{_<_, min};
-ghost use Rattle.poles.specs.Poles.{term, blendOf, poleSection, poleMix, poleStage, poleStep};
-ghost use Rattle.poles.specs.Numbers.{running, poleNumbers, sectionAt};
+ghost use Prim.Native.Nat.{_+_, _<_, _≤_, min};
+ghost use Rattle.filter.specs.Filter.{octavesOf};
+ghost use Rattle.poles.specs.Poles.{term, blendOf, poleOver, poleMix, poleStage, poleStep};
+ghost use Rattle.poles.specs.Numbers.{judgedSection, runningSection, listed, poleNumbers, sectionAt};
 ghost use Rattle.extended.specs.Extended.{ticked};
 use extended::Settings;
 use filter::Pitch;
@@ -23,6 +24,12 @@ pub struct PoleSection {
     pub high: f32,
     pub band: f32,
     pub low: f32,
+}
+
+// A section, and 1 if its ratio was greater than the cap, else 0.
+pub struct JudgedSection {
+    pub section: PoleSection,
+    pub over: u32,
 }
 
 // Where value i of section j begins in the table, each with its four terms.
@@ -48,17 +55,21 @@ fn pole_section(
     transpose: f32,
     reference: Ratio,
     j: usize,
-) -> PoleSection
+) -> JudgedSection
     requires { ⌜ j < 8 ⌝ }
-    ensures { λ r. ⌜ r ≡ poleSection (now (sections .entry)) x y transpose reference j ⌝ }
+    ensures { λ r. ⌜ r ≡ judgedSection (now (sections .entry)) x y transpose reference j ⌝ }
 {
     let octaves = blend(sections, term(j, 0), x, y);
-    PoleSection {
-        g: filter::gain_at(filter::ratio_at(transpose + octaves, reference)),
-        k: blend(sections, term(j, 1), x, y),
-        high: blend(sections, term(j, 2), x, y),
-        band: blend(sections, term(j, 3), x, y),
-        low: blend(sections, term(j, 4), x, y),
+    let c = filter::capped_at(transpose + octaves, reference);
+    JudgedSection {
+        section: PoleSection {
+            g: filter::gain_at(c.ratio),
+            k: blend(sections, term(j, 1), x, y),
+            high: blend(sections, term(j, 2), x, y),
+            band: blend(sections, term(j, 3), x, y),
+            low: blend(sections, term(j, 4), x, y),
+        },
+        over: filter::once(c.over),
     }
 }
 
@@ -102,39 +113,41 @@ fn running_section(
     reference: Ratio,
     n: usize,
     j: usize,
-) -> PoleSection
+) -> JudgedSection
     requires { ⌜ j < 8 ⌝ }
-    ensures { λ r. ⌜ r ≡ running n (poleSection (now (sections .entry)) x y transpose reference) j ⌝ }
+    ensures { λ r. ⌜ r ≡ runningSection n (now (sections .entry)) x y transpose reference j ⌝ }
 {
     if j < n {
         return pole_section(sections, x, y, transpose, reference, j);
     }
-    PoleSection {
-        g: 0.0,
-        k: 0.0,
-        high: 0.0,
-        band: 0.0,
-        low: 0.0,
+    JudgedSection {
+        section: PoleSection {
+            g: 0.0,
+            k: 0.0,
+            high: 0.0,
+            band: 0.0,
+            low: 0.0,
+        },
+        over: 0,
     }
 }
 
-// What follows from the pitch and the settings alone: the numbers of all sections, five a section, then the pitch, X and Y.
-pub fn pole_numbers(sections: &[f32; 160], active: u32, pitch: Pitch, p: Settings) -> [f32; 43]
-    ensures { λ r. ⌜ r ≡ poleNumbers (now (sections .entry)) active (p .«ref_over_rate») pitch (p .x) (p .y) ⌝ }
+// Eight sections' numbers, five a section, then the pitch, X and Y.
+fn listed(
+    a: PoleSection,
+    b: PoleSection,
+    c: PoleSection,
+    d: PoleSection,
+    e: PoleSection,
+    f: PoleSection,
+    g: PoleSection,
+    h: PoleSection,
+    pitch: f32,
+    x: f32,
+    y: f32,
+) -> [f32; 43]
+    ensures { λ r. ⌜ r ≡ listed a b c d e f g h pitch x y ⌝ }
 {
-    let reference = p.ref_over_rate;
-    let x = p.x;
-    let y = p.y;
-    let transpose = filter::octaves_of(pitch);
-    let n = sections_run(active);
-    let a = running_section(sections, x, y, transpose, reference, n, 0);
-    let b = running_section(sections, x, y, transpose, reference, n, 1);
-    let c = running_section(sections, x, y, transpose, reference, n, 2);
-    let d = running_section(sections, x, y, transpose, reference, n, 3);
-    let e = running_section(sections, x, y, transpose, reference, n, 4);
-    let f = running_section(sections, x, y, transpose, reference, n, 5);
-    let g = running_section(sections, x, y, transpose, reference, n, 6);
-    let h = running_section(sections, x, y, transpose, reference, n, 7);
     [
         a.g,
         a.k,
@@ -176,10 +189,69 @@ pub fn pole_numbers(sections: &[f32; 160], active: u32, pitch: Pitch, p: Setting
         h.high,
         h.band,
         h.low,
-        pitch.0,
+        pitch,
         x,
         y,
     ]
+}
+
+// The sum of eight marks.
+fn marked(a: u32, b: u32, c: u32, d: u32, e: u32, f: u32, g: u32, h: u32) -> u32
+    requires { ⌜ (a ≤ 1) × (b ≤ 1) × (c ≤ 1) × (d ≤ 1) × (e ≤ 1) × (f ≤ 1) × (g ≤ 1) × (h ≤ 1) ⌝ }
+    ensures { λ r. ⌜ r ≡ a + b + c + d + e + f + g + h ⌝ }
+{
+    a + b + c + d + e + f + g + h
+}
+
+// The numbers of all sections, and how many of the running ones' ratios were greater than their cap.
+pub struct Blended {
+    pub numbers: [f32; 43],
+    pub over: u32,
+}
+
+// What follows from the pitch and the settings alone.
+pub fn pole_numbers(sections: &[f32; 160], active: u32, pitch: Pitch, p: Settings) -> Blended
+    ensures { λ r. ⌜ (r .numbers ≡ poleNumbers (now (sections .entry)) active (p .«ref_over_rate») pitch (p .x) (p .y))
+        × (r .over ≡ poleOver (now (sections .entry)) active (p .x) (p .y) (octavesOf pitch) (p .«ref_over_rate»)) ⌝ }
+{
+    let reference = p.ref_over_rate;
+    let x = p.x;
+    let y = p.y;
+    let transpose = filter::octaves_of(pitch);
+    let n = sections_run(active);
+    let a = running_section(sections, x, y, transpose, reference, n, 0);
+    let b = running_section(sections, x, y, transpose, reference, n, 1);
+    let c = running_section(sections, x, y, transpose, reference, n, 2);
+    let d = running_section(sections, x, y, transpose, reference, n, 3);
+    let e = running_section(sections, x, y, transpose, reference, n, 4);
+    let f = running_section(sections, x, y, transpose, reference, n, 5);
+    let g = running_section(sections, x, y, transpose, reference, n, 6);
+    let h = running_section(sections, x, y, transpose, reference, n, 7);
+    Blended {
+        numbers: listed(
+            a.section,
+            b.section,
+            c.section,
+            d.section,
+            e.section,
+            f.section,
+            g.section,
+            h.section,
+            pitch.0,
+            x,
+            y,
+        ),
+        over: marked(
+            a.over,
+            b.over,
+            c.over,
+            d.over,
+            e.over,
+            f.over,
+            g.over,
+            h.over,
+        ),
+    }
 }
 
 // Section j of those numbers.

@@ -2,14 +2,16 @@
 -- Assumes nothing.
 use mathlib.Core.Path.{_≡_, refl, sym, ap, _∙_, subst}
 use mathlib.Core.List.{List}
+use Prim.Native.Nat.{ℕ}
 use lib.Ieee.{Float}
 use Rattle.lane.specs.Floats.{_‼_}
 use Rattle.filter.specs.declared.Pitch.{Pitch}
 use Rattle.filter.specs.Voice.{CHARACTER}
 use Rattle.extended.specs.declared.Settings.{Settings}
-use Rattle.kernels.specs.Tuning.{tuningOf, keyOf, blendedOf}
+use Rattle.kernels.specs.Kernels.{overCount}
+use Rattle.kernels.specs.Tuning.{tuningOf, tunedOver, keyOf, blendedOf, blendedOver}
 use Rattle.kernels.specs.Contracts.{KeptSections, Tuned}
-use Rattle.kernels.specs.Keeping.{key-numbers, kept, blended-at, blended-kept}
+use Rattle.kernels.specs.Keeping.{key-numbers, key-over, over-is, sections-pass, kept, blended-at, blended-kept}
 use Rattle.run.specs.declared.Controls.{Controls}
 use Rattle.run.specs.declared.Structure.{Structure}
 use Rattle.run.specs.Run.{settingsOf}
@@ -24,22 +26,39 @@ module _ (m : Structure) (sections params : List Float) (at : Controls) (p : Set
   unfolding settingsOf
   reference-is = ap (λ (q : Settings). q .«ref_over_rate») e
 
-  -- the sections' numbers may be brought to the settings
-  pub before-blend : (blended : List Float) → KeptSections sections (m .active) (m .k .«ref_over_rate») blended
-      → KeptSections sections (m .active) (p .«ref_over_rate») blended
-  before-blend blended = subst (λ r. KeptSections sections (m .active) r blended) (sym reference-is)
+  abbrev key : Settings
+  key = keyOf (m .k .«ref_over_rate») (params ‼ CHARACTER)
 
-  module _ (pitch : Pitch) (tuning blended before : List Float)
-      (tuned : tuning ≡ tuningOf (m .code) pitch (keyOf (m .k .«ref_over_rate») (params ‼ CHARACTER)))
-      (brought : blended ≡ blendedOf (m .code) sections (m .active) pitch p before) where
-    -- then both lists are those of the pitch and the settings
-    pub tuned-at : Tuned (m .code) (tableFor m sections) pitch p tuning blended
-    tuned-at = record { numbers = tuned ∙ key-settings pitch; sections = blended-at (m .code) sections (m .active) pitch p before blended brought }
+  same-over : (pitch : Pitch) (o : ℕ) → tunedOver (m .code) pitch key o ≡ tunedOver (m .code) pitch p o
+  unfolding settingsOf
+  same-over pitch o = key-over (m .code) pitch (settingsOf (m .k) params at) o refl ∙ ap (λ (q : Settings). tunedOver (m .code) pitch q o) (sym e)
 
-    -- and are kept
-    pub keeps : KeptSections sections (m .active) (m .k .«ref_over_rate») before → Keeps m sections tuning blended
-    keeps h = record {
-      numbers = kept (m .code) (m .k .«ref_over_rate») pitch (params ‼ CHARACTER) tuning tuned;
-      blends = subst (λ r. KeptSections sections (m .active) r blended) reference-is
-          (blended-kept (m .code) sections (m .active) pitch p before blended brought (before-blend before h));
-    }
+  -- the count kept before a frame, after the tuning is brought to it and after the sections are
+  module _ (pitch : Pitch) (o o1 : ℕ) (e1 : o1 ≡ tunedOver (m .code) pitch key o) where
+    -- the sections' numbers may be brought to the settings
+    pub before-blend : (blended : List Float) → KeptSections (m .code) sections (m .active) (m .k .«ref_over_rate») blended o
+        → KeptSections (m .code) sections (m .active) (p .«ref_over_rate») blended o1
+    before-blend blended h =
+        sections-pass (m .code) (tableFor m sections) pitch p key o o1 o1 e1 blended
+        (subst (λ r. KeptSections (m .code) sections (m .active) r blended o) (sym reference-is) h)
+
+    module _ (tuning blended before : List Float) (o2 : ℕ)
+        (tuned : tuning ≡ tuningOf (m .code) pitch key)
+        (brought : blended ≡ blendedOf (m .code) sections (m .active) pitch p before)
+        (e2 : o2 ≡ blendedOver (m .code) sections (m .active) (p .«ref_over_rate») pitch (p .x) (p .y) o1) where
+      -- then both lists are those of the pitch and the settings
+      pub tuned-at : Tuned (m .code) (tableFor m sections) pitch p tuning blended
+      tuned-at = record { numbers = tuned ∙ key-settings pitch; sections = blended-at (m .code) sections (m .active) pitch p before blended brought }
+
+      -- the count is the tick's
+      pub judged : o2 ≡ overCount (m .code) (tableFor m sections) pitch p
+      judged = over-is (m .code) (tableFor m sections) pitch p key o o1 o2 e1 (same-over pitch o) e2
+
+      -- and all are kept
+      pub keeps : KeptSections (m .code) sections (m .active) (m .k .«ref_over_rate») before o → Keeps m sections tuning blended o2
+      unfolding blendedOver
+      keeps h = record {
+        numbers = kept (m .code) (m .k .«ref_over_rate») pitch (params ‼ CHARACTER) tuning _ o o1 o2 tuned e1 e2;
+        blends = subst (λ r. KeptSections (m .code) sections (m .active) r blended o2) reference-is
+            (unfold blendedOver in blended-kept (m .code) sections (m .active) pitch p before blended brought o1 o2 (before-blend before h) e2);
+      }

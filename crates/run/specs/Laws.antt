@@ -1,7 +1,7 @@
 -- For the proofs: nothing here must be believed.
--- A tick keeps the record's thirty numbers and the ring's length, whatever the structure. Assumes nothing.
+-- A tick keeps the record's thirty numbers and the ring's length, and judges at most eight ratios, whatever the structure. Assumes nothing.
 use mathlib.Core.Path.{_≡_, refl, _∙_}
-use Prim.Native.Nat.{ℕ}
+use Prim.Native.Nat.{ℕ, _≤_}
 use mathlib.Core.Bool.{Bool, true, false, cond}
 use mathlib.Core.List.{List, _++_}
 use native.Mathlib.Omega.{arith}
@@ -12,11 +12,11 @@ use Rattle.filter.specs.Voice.{CHARACTER}
 use Rattle.extended.specs.Extended.{smoothMark}
 use Rattle.pole_zero.specs.declared.Table.{Table}
 use Rattle.kernels.specs.Kernels.{Kernel}
-use Rattle.kernels.specs.Laws.{SameLengths, kernel-lengths}
+use Rattle.kernels.specs.Laws.{SameLengths, kernel-lengths, over-most}
 use Rattle.voices.specs.Calls.{targetsWidth, recordWidth, Steering}
 use Rattle.run.specs.declared.Constants.{Constants}
 use Rattle.run.specs.declared.Controls.{Controls}
-use Rattle.run.specs.Run.{smoothOf, lagState, stateAfter, kernelTick, controlsOf, tickWith}
+use Rattle.run.specs.Run.{smoothOf, lagState, stateAfter, kernelTick, overTick, controlsOf, tickWith}
 
 lag-length : (code : ℕ) (smooth character : Float) (state : List Float) (at : Controls)
     → length (stateAfter code smooth character state at) ≡ length state
@@ -54,3 +54,7 @@ module _ (code : ℕ) (k : Constants) (table : Table) (len : ℕ) (sign : Float)
   pub ring-length : length ring ≡ len → length (tickWith code k table len sign targets cursor pitch input st rec ring .ring) ≡ len
   unfolding tickWith
   ring-length h = kept .cells ∙ h
+
+  pub tick-judges : tickWith code k table len sign targets cursor pitch input st rec ring .over ≤ 8
+  unfolding tickWith overTick
+  tick-judges = over-most code table _ _

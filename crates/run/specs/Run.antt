@@ -1,4 +1,4 @@
--- One frame of one slot: the body of Run::go's frame loop (document 01, One block goes through, points 1 to 5).
+-- One frame of one slot: the body of Run::go's frame loop (document 01, One block goes through, points 1 to 5; document 02, C-11).
 -- Definitions only. Assumes nothing.
 use Prim.Native.Nat.{ℕ}
 use mathlib.Core.Bool.{Bool, cond}
@@ -15,7 +15,7 @@ use Rattle.filter.specs.Voice.{RES, DRIVE, «DRIVE_GAIN», «INV_KNEE», OFFSET
 use Rattle.extended.specs.declared.Settings.{Settings}
 use Rattle.extended.specs.Extended.{unitOr0, smoothMark}
 use Rattle.pole_zero.specs.declared.Table.{Table}
-use Rattle.kernels.specs.Kernels.{Kernel, kernelOf}
+use Rattle.kernels.specs.Kernels.{Kernel, kernelOf, overCount}
 use Rattle.voices.specs.Calls.{Tick, Steering, targetsWidth}
 use Rattle.run.specs.declared.Constants.{Constants}
 use Rattle.run.specs.declared.Controls.{Controls}
@@ -146,10 +146,21 @@ kernelTick code k table len cursor params state at input ring =
     kernelOf code table len cursor (record { 0 = after .pitch }) (settingsOf k params after) (stateAfter code smooth character state at) ring
     (drivenOf k params input)
 
+-- C-11: how often the kernel judges a ratio greater than its cap, at the pitch and the settings that it takes
+unfoldable pub overTick : (code : ℕ) → Constants → Table → (params state : List Float) → Controls → ℕ
+overTick code k table params state at =
+    let after = controlsAfter code (k .«smooth_samples») (params ‼ CHARACTER) state at in
+    overCount code table (record { 0 = after .pitch }) (settingsOf k params after)
+
 -- points 1 to 5. The record is the ten smoothed numbers and then the twenty states
 unfoldable pub tickWith : (code : ℕ) → Constants → Table → (len : ℕ) (sign : Float) (targets : List Float) (cursor : ℕ) (pitch input : Float)
     → Steering → (rec ring : List Float) → Tick
 tickWith code k table len sign targets cursor pitch input st rec ring =
     let params = smoothOf (k .alpha) targets (take targetsWidth rec) in
     let t = kernelTick code k table len cursor params (drop targetsWidth rec) (controlsOf params sign pitch st) input ring in
-    record { rec = params ++ t .state; ring = t .ring; out = mixOf params input (t .out) }
+    record {
+      rec = params ++ t .state;
+      ring = t .ring;
+      out = mixOf params input (t .out);
+      over = overTick code k table params (drop targetsWidth rec) (controlsOf params sign pitch st);
+    }

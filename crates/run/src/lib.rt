@@ -7,7 +7,7 @@ ghost use Rattle.kernels.specs.Contracts.{KernelLeaves};
 ghost use Rattle.voices.specs.Calls.{targetsWidth};
 ghost use Rattle.run.specs.Run.{cleanDrive, constantsOf, signOf, smoothOf, lagShare, lagged, lagState, controlsAfter, stateAfter};
 ghost use Rattle.run.specs.Run.{drivenOf, settingsOf, mixOf};
-ghost use Rattle.run.specs.Contracts.{steerOf, Keeps, kernelOn, tickOn, TickLeaves};
+ghost use Rattle.run.specs.Contracts.{steerOf, Keeps, kernelOn, overOn, tickOn, TickLeaves};
 use extended::Settings;
 use filter::Pitch;
 use filter::Ratio;
@@ -229,25 +229,33 @@ fn mix(params: &[f32; 10], input: f32, wet: f32) -> f32
     (wet * params[MIX] + input * (1.0 - params[MIX])) * params[LEVEL]
 }
 
-// The lag, the drive and the kernel. `tuning` and `blended` hold the numbers kept from frame to frame.
+// A frame's sample, and how often its kernel judged a ratio greater than the cap.
+pub struct Sample {
+    pub out: f32,
+    pub over: u32,
+}
+
+// The lag, the drive and the kernel. `tuning`, `blended` and `over` hold the numbers kept from frame to frame.
 fn kernel_tick(
     m: Structure,
     sections: &[f32; 160],
     roots: &[u8; 1024],
     tuning: &mut [f32; 10],
     blended: &mut [f32; 43],
+    over: &mut u32,
     params: &[f32; 10],
     state: &mut [f32; 20],
     delay: &mut [f32],
     at: Ring,
     controls: Controls,
     input: f32,
-) -> f32
-    requires { ⌜ (StandsIn (now delay) at) × (Keeps m (now sections) (now tuning) (now blended)) ⌝ }
+) -> Sample
+    requires { ⌜ (StandsIn (now delay) at) × (Keeps m (now sections) (now tuning) (now blended) (now over)) ⌝ }
     ensures { λ r. ⌜ (KernelLeaves
         (kernelOn m (now (sections .entry)) at (now (params .entry)) (now (state .entry)) controls input (now (delay .entry)))
-        (now (delay .entry)) at r (now (state .exit)) (now (delay .exit)))
-        × (Keeps m (now (sections .entry)) (now (tuning .exit)) (now (blended .exit))) ⌝ }
+        (now (delay .entry)) at (r .out) (now (state .exit)) (now (delay .exit)))
+        × (r .over ≡ overOn m (now (sections .entry)) (now (params .entry)) (now (state .entry)) controls)
+        × (Keeps m (now (sections .entry)) (now (tuning .exit)) (now (blended .exit)) (now (over .exit))) ⌝ }
 {
     let k = m.k;
     let after = lag(m.code, state, k.smooth_samples, params[CHARACTER], controls);
@@ -255,13 +263,13 @@ fn kernel_tick(
     let p = settings_of(k, params, after);
     let reference = k.ref_over_rate;
     let pitch = Pitch(after.pitch);
-    kernels::tuning::retune(m.code, tuning, pitch, reference, params[CHARACTER]);
-    kernels::tuning::blend_sections(m.code, blended, sections, m.active, pitch, p);
+    kernels::tuning::retune(m.code, tuning, over, pitch, reference, params[CHARACTER]);
+    kernels::tuning::blend_sections(m.code, blended, over, sections, m.active, pitch, p);
     let series = Series {
         active: m.active,
         gain: m.gain,
     };
-    kernels::kernel(
+    let wet = kernels::kernel(
         m.code,
         sections,
         series,
@@ -274,29 +282,34 @@ fn kernel_tick(
         pitch,
         p,
         driven,
-    )
+    );
+    Sample {
+        out: wet,
+        over: *over,
+    }
 }
 
-// One frame of one slot. `roots` is the root's table, `tuning` and `blended` hold the numbers kept from frame to frame.
+// One frame of one slot. `roots` is the root's table; `tuning`, `blended` and `over` hold the numbers kept from frame to frame.
 pub fn tick(
     m: Structure,
     sections: &[f32; 160],
     roots: &[u8; 1024],
     tuning: &mut [f32; 10],
     blended: &mut [f32; 43],
+    over: &mut u32,
     targets: &[f32; 10],
     params: &mut [f32; 10],
     state: &mut [f32; 20],
     delay: &mut [f32],
     at: Ring,
     f: FrameInput,
-) -> f32
-    requires { ⌜ (length (now params) ≡ targetsWidth) × (StandsIn (now delay) at) × (Keeps m (now sections) (now tuning) (now blended)) ⌝ }
+) -> Sample
+    requires { ⌜ (length (now params) ≡ targetsWidth) × (StandsIn (now delay) at) × (Keeps m (now sections) (now tuning) (now blended) (now over)) ⌝ }
     ensures { λ r. ⌜ (TickLeaves
         (tickOn m (now (sections .entry)) at f (now (targets .entry)) (now (params .entry) ++ now (state .entry)) (now (delay .entry)))
         (now (delay .entry)) at r (now (params .exit) ++ now (state .exit)) (now (delay .exit)))
         × (length (now (params .exit)) ≡ targetsWidth)
-        × (Keeps m (now (sections .entry)) (now (tuning .exit)) (now (blended .exit))) ⌝ }
+        × (Keeps m (now (sections .entry)) (now (tuning .exit)) (now (blended .exit)) (now (over .exit))) ⌝ }
 {
     let k = m.k;
     let pitch = f.pitch;
@@ -312,6 +325,7 @@ pub fn tick(
         roots,
         tuning,
         blended,
+        over,
         params,
         state,
         delay,
@@ -319,5 +333,8 @@ pub fn tick(
         controls,
         f.input,
     );
-    mix(params, f.input, wet)
+    Sample {
+        out: mix(params, f.input, wet.out),
+        over: wet.over,
+    }
 }

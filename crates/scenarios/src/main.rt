@@ -1,8 +1,8 @@
 // Replays lists of calls on the proved bank: copies each call and writes its answer anew, so that the output is the input where
-// every answer is right, bit for bit. The answers of the input, lines that start with `=`, `o`, `h`, `t`, `r` or `d`, are left
+// every answer is right, bit for bit. The answers of the input, lines that start with `=`, `o`, `h`, `c`, `t`, `r` or `d`, are left
 // out; a line that cannot be read gives `?`.
 // Limits: targets 160 numbers, records 960, delay 65,536, each lent with one more at most; pitch, x and y 8,192 numbers each,
-// audio 16,384; the input 1,048,576 bytes.
+// audio 16,384, counts 1,024; the input 1,048,576 bytes.
 ghost use Prim.Native.Nat.{_<_, _≤_};
 ghost use lib.ListN.{length};
 use bank::Answer;
@@ -19,13 +19,16 @@ struct Lengths {
 }
 
 // What the next call is handed beside the lists' numbers. `own` are the lists' lengths and `lent` those that the next call is
-// given, which a `lend` line changes. The fields from `frames` on are a block's as its lines are read: `awaited` counts those
-// still to come, and `pitch` to `audio` are how many numbers its lists have.
+// given, which a `lend` line changes. The fields from `counts` on are a block's: where a `counts` line `said` so, the next one's
+// list of counts has `counts` numbers. Those from `frames` on are as its lines are read: `awaited` counts those still to come, and
+// `pitch` to `audio` are how many numbers its lists have.
 struct State {
     setup: Setup,
     cursor: usize,
     own: Lengths,
     lent: Lengths,
+    counts: usize,
+    said: bool,
     frames: usize,
     steered: bool,
     digest: bool,
@@ -233,6 +236,22 @@ fn put_digest(out: &mut [u8], at: usize, xs: &[f32]) -> usize {
     text::put_byte(out, p, b'\n')
 }
 
+fn put_count(out: &mut [u8], at: usize, n: u32) -> usize {
+    let p = text::put_byte(out, at, b' ');
+    text::put_decimal(out, p, n as u64)
+}
+
+// A line of counts: `c`, and each in decimal.
+fn put_counts(out: &mut [u8], at: usize, counts: &[u32]) -> usize {
+    let mut p = text::put_byte(out, at, b'c');
+    let mut i = 0;
+    while i < counts.len() {
+        p = put_count(out, p, counts[i]);
+        i += 1;
+    }
+    text::put_byte(out, p, b'\n')
+}
+
 // `= ok` and the cursor
 fn put_ok(out: &mut [u8], at: usize, cursor: usize) -> usize {
     let p = text::put_bytes(out, at, b"= ok ");
@@ -308,6 +327,8 @@ fn fresh() -> State {
             records: 0,
             delay: 0,
         },
+        counts: 0,
+        said: false,
         frames: 0,
         steered: false,
         digest: false,
@@ -427,6 +448,18 @@ fn read_cursor(s: &[u8], st: State) -> StateRead {
     }
 }
 
+// `counts` n
+fn read_counts(s: &[u8], st: State) -> StateRead {
+    let mut next = st;
+    let n = count_at(s, 0, 1);
+    next.counts = n;
+    next.said = true;
+    StateRead {
+        state: next,
+        ok: ends_at(s, 2) & words::are_decimals(s, 0, 1, 1) & (n <= 1024),
+    }
+}
+
 // `block` or `blockh` frames steered; four lines follow.
 fn read_block(s: &[u8], st: State, digest: bool) -> StateRead {
     let mut next = st;
@@ -464,6 +497,7 @@ fn read_state(word: usize, s: &[u8], st: State) -> StateRead {
         5 => read_cursor(s, st),
         9 => read_block(s, st, false),
         10 => read_block(s, st, true),
+        16 => read_counts(s, st),
         _ => StateRead {
             state: st,
             ok: is_read(word, s),
@@ -655,6 +689,21 @@ fn start_call(
     put_answer(out, at, a)
 }
 
+// How many counts the block is lent: as a `counts` line said, or one a slot. More voices than 16, or channels than 2, are refused
+// before the lists are measured.
+fn counts_of(st: State) -> usize {
+    if st.said {
+        return st.counts;
+    }
+    let setup = st.setup;
+    let voices = at_most(setup.voices, 16);
+    if setup.channels == 2 {
+        2 * voices
+    } else {
+        voices
+    }
+}
+
 fn block_call(
     st: State,
     targets: &[f32],
@@ -664,6 +713,7 @@ fn block_call(
     x: &[f32],
     y: &[f32],
     audio: &mut [f32],
+    counts: &mut [u32],
 ) -> Answer {
     let lent = st.lent;
     let t = at_most(lent.targets, targets.len());
@@ -673,6 +723,7 @@ fn block_call(
     let xn = at_most(st.x, x.len());
     let yn = at_most(st.y, y.len());
     let an = at_most(st.audio, audio.len());
+    let cn = at_most(counts_of(st), counts.len());
     bank::block(
         st.setup,
         st.cursor,
@@ -685,18 +736,33 @@ fn block_call(
         &x[0..xn],
         &y[0..yn],
         &mut audio[0..an],
+        &mut counts[0..cn],
     )
 }
 
-// A block's answer, and its samples or their sums where it is accepted.
-fn put_block(out: &mut [u8], at: usize, a: Answer, st: State, audio: &[f32]) -> usize {
-    let n = at_most(st.audio, audio.len());
+// A block's samples or their sums.
+fn put_samples(out: &mut [u8], at: usize, digest: bool, audio: &[f32]) -> usize {
+    if digest {
+        return put_digest(out, at, audio);
+    }
+    put_list(out, at, b'o', audio)
+}
+
+// A block's answer, and its samples or their sums and its counts where it is accepted.
+fn put_block(
+    out: &mut [u8],
+    at: usize,
+    a: Answer,
+    st: State,
+    audio: &[f32],
+    counts: &[u32],
+) -> usize {
+    let an = at_most(st.audio, audio.len());
+    let cn = at_most(counts_of(st), counts.len());
     let p = put_answer(out, at, a);
     if is_accepted(a) {
-        if st.digest {
-            return put_digest(out, p, &audio[0..n]);
-        }
-        return put_list(out, p, b'o', &audio[0..n]);
+        let p = put_samples(out, p, st.digest, &audio[0..an]);
+        return put_counts(out, p, &counts[0..cn]);
     }
     p
 }
@@ -724,6 +790,13 @@ fn after_call(st: State, cursor: usize) -> State {
     let own = st.own;
     next.cursor = cursor;
     next.lent = own;
+    next
+}
+
+// The same after a block: the next one is lent a count a slot.
+fn after_block(st: State, cursor: usize) -> State {
+    let mut next = after_call(st, cursor);
+    next.said = false;
     next
 }
 
@@ -755,7 +828,7 @@ fn call(
     }
 }
 
-// The same of a block, whose last line has been read.
+// The same of a block, whose last line has been read. Each of the lent counts is 7 before.
 fn block_line(
     st: State,
     targets: &[f32],
@@ -768,10 +841,11 @@ fn block_line(
     out: &mut [u8],
     at: usize,
 ) -> Step {
-    let a = block_call(st, targets, records, delay, pitch, x, y, audio);
+    let mut counts = [7u32; 1024];
+    let a = block_call(st, targets, records, delay, pitch, x, y, audio, &mut counts);
     Step {
-        state: after_call(st, cursor_after(a, st.cursor)),
-        at: put_block(out, at, a, st, audio),
+        state: after_block(st, cursor_after(a, st.cursor)),
+        at: put_block(out, at, a, st, audio, &counts),
     }
 }
 
@@ -808,11 +882,11 @@ fn put_unread(out: &mut [u8]) -> usize {
     text::put_bytes(out, 0, b"?\n")
 }
 
-// The place of the line's first word among the commands; 16 where it is none of them.
+// The place of the line's first word among the commands; 17 where it is none of them.
 fn command_at(s: &[u8]) -> usize {
     words::name_at(
-        b"scenario table open setup lend cursor poke set start block blockh dump p x y a",
-        16,
+        b"scenario table open setup lend cursor poke set start block blockh dump p x y a counts",
+        17,
         s,
         0,
     )
@@ -871,7 +945,7 @@ fn is_command(s: &[u8]) -> bool {
     if s[0] == b'#' {
         return false;
     }
-    words::name_at(b"= o h t r d", 6, s, 0) == 6
+    words::name_at(b"= o h t r d c", 7, s, 0) == 7
 }
 
 // A comment, and nothing of an answer.

@@ -1,4 +1,4 @@
--- What the exported calls of the bank answer and leave: numbers in place of the answers of voices/specs/Calls.
+-- What the exported calls of the bank answer and leave: numbers in place of the answers of voices/specs/Calls (counts: document 02, C-11).
 -- Definitions only. Assumes nothing.
 use mathlib.Core.Path.{_≡_}
 use Prim.Native.Nat.{ℕ}
@@ -13,7 +13,7 @@ use Rattle.bank.specs.Bank.{before, openBy}
 
 -- the interface's version, 10,000 x major + 100 x minor + patch
 abbrev pub version : ℕ
-version = 200
+version = 300
 
 -- a setup from the numbers that a caller in C hands over
 abbrev pub setupOf : (code : ℕ) (rate reference : Float) (voices channels : ℕ) (clean : Bool)
@@ -63,21 +63,28 @@ abbrev pub numberIn : List Answer → ℕ
 numberIn [] = 0
 numberIn (refusedCall k ∷ l) = k
 numberIn (kept cursor ∷ l) = 0
-numberIn (rendered cursor frames audio ∷ l) = 0
+numberIn (rendered cursor frames audio counts ∷ l) = 0
 
 -- the frames that it rendered, or the number that stood there
 abbrev pub framesIn : List Answer → ℕ → ℕ
 framesIn [] before = before
 framesIn (refusedCall k ∷ l) before = before
 framesIn (kept cursor ∷ l) before = before
-framesIn (rendered cursor frames audio ∷ l) before = frames
+framesIn (rendered cursor frames audio counts ∷ l) before = frames
 
 -- the audio that it left: the rendered one, or as it was
 abbrev pub audioIn : List Answer → List Float → List Float
 audioIn [] before = before
 audioIn (refusedCall k ∷ l) before = before
 audioIn (kept cursor ∷ l) before = before
-audioIn (rendered cursor frames audio ∷ l) before = audio
+audioIn (rendered cursor frames audio counts ∷ l) before = audio
+
+-- the counts that it left (C-11): the block's, or as they were
+abbrev pub countsIn : List Answer → List ℕ → List ℕ
+countsIn [] before = before
+countsIn (refusedCall k ∷ l) before = before
+countsIn (kept cursor ∷ l) before = before
+countsIn (rendered cursor frames audio counts ∷ l) before = counts
 
 -- ---- what each exported call promises, of the run that the definitions' call makes
 
@@ -87,12 +94,13 @@ pub record ListsLeft (R : Run) (number : ℕ) (targets records delay : List Floa
   pub records' : records ≡ R .bank .records
   pub delay' : delay ≡ R .bank .delay
 
--- `given` is the number of frames that stood there
-pub record BlockLeft (R : Run) (before : List Float) (given number cursor frames : ℕ) (targets records delay audio : List Float) : Type 0 where
+-- of the block q; `given` is the number of frames that stood there
+pub record BlockLeft (R : Run) (q : Block) (given number cursor frames : ℕ) (targets records delay audio : List Float) (counts : List ℕ) : Type 0 where
   pub lists : ListsLeft R number targets records delay
   pub cursor' : cursor ≡ R .bank .cursor
   pub frames' : frames ≡ framesIn (R .log) given
-  pub audio' : audio ≡ audioIn (R .log) before
+  pub audio' : audio ≡ audioIn (R .log) (q .audio)
+  pub counts' : counts ≡ countsIn (R .log) (q .counts)
 
 -- open, by `openBy` on the verdict
 abbrev pub OpenLeaves : Setup → Bank → (number : ℕ) (targets records delay : List Float) → Type 0
@@ -103,6 +111,6 @@ abbrev pub CallLeaves : Setup → Call VoiceParams → Bank → (number : ℕ) (
 CallLeaves s x b n tg rs ds = ListsLeft (call (engine s) (s .voices) x (before b)) n tg rs ds
 
 -- block
-abbrev pub BlockLeaves : Setup → Block → Bank → (given number cursor frames : ℕ) (records delay audio : List Float) → Type 0
-BlockLeaves s q b given n cur f rs ds audio =
-    BlockLeft (call (engine s) (s .voices) (callBlock q) (before b)) (q .audio) given n cur f (b .targets) rs ds audio
+abbrev pub BlockLeaves : Setup → Block → Bank → (given number cursor frames : ℕ) (records delay audio : List Float) (counts : List ℕ) → Type 0
+BlockLeaves s q b given n cur f rs ds audio counts =
+    BlockLeft (call (engine s) (s .voices) (callBlock q) (before b)) q given n cur f (b .targets) rs ds audio counts

@@ -17,7 +17,7 @@ use pole_zero::Table;
 pub extern "C" fn sentivolus_version() -> u32
     ensures { λ r. ⌜ r ≡ version ⌝ }
 {
-    200
+    300
 }
 
 // The default settings of a voice, in the order of VoiceParams.
@@ -226,7 +226,8 @@ pub extern "C" fn sentivolus_start(
     number_of(bank::start(s, 0, targets, records, delay, voice))
 }
 
-// Renders a block in place. `cursor` is the cursor, and the new one afterwards; `rendered` becomes the frames rendered.
+// Renders a block in place. `cursor` is the cursor, and the new one afterwards; `counts`, one number a slot, becomes how often in this block a ratio was
+// greater than its cap (C-11); `rendered` becomes the frames rendered.
 #[no_mangle]
 pub extern "C" fn sentivolus_block(
     code: u32,
@@ -248,12 +249,14 @@ pub extern "C" fn sentivolus_block(
     x: &[f32],
     y: &[f32],
     audio: &mut [f32],
+    counts: &mut [u32],
     rendered: &mut usize,
 ) -> u32
     ensures { λ r. ⌜ BlockLeaves (setupOf code rate reference voices channels clean active (now (sections .entry)) gain)
-        (blockFrom frames (now (pitch .entry)) steered (now (x .entry)) (now (y .entry)) (now (audio .entry)))
+        (blockFrom frames (now (pitch .entry)) steered (now (x .entry)) (now (y .entry)) (now (audio .entry)) (now (counts .entry)))
         (bankOf (now (targets .entry)) (now (records .entry)) (now (delay .entry)) (now (cursor .entry)))
-        (now (rendered .entry)) r (now (cursor .exit)) (now (rendered .exit)) (now (records .exit)) (now (delay .exit)) (now (audio .exit)) ⌝ }
+        (now (rendered .entry)) r (now (cursor .exit)) (now (rendered .exit))
+        (now (records .exit)) (now (delay .exit)) (now (audio .exit)) (now (counts .exit)) ⌝ }
 {
     let s = setup_of(
         code,
@@ -280,6 +283,7 @@ pub extern "C" fn sentivolus_block(
         x,
         y,
         audio,
+        counts,
     );
     *cursor = cursor_of(a, from);
     *rendered = frames_or(a, shown);

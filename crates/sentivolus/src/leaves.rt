@@ -6,7 +6,7 @@ ghost use Rattle.sqrt.specs.Root.{rootOf};
 ghost use Rattle.sqrt.specs.Openings.{openings};
 ghost use Rattle.log2.specs.Log2.{logOf};
 ghost use Rattle.lines.specs.Lines.{hermiteOf, ringLen, readOf};
-ghost use Rattle.filter.specs.Filter.{ratioOf, gainOf, svfOf};
+ghost use Rattle.filter.specs.Filter.{ratioOf, overOf, gainOf, svfOf};
 ghost use Rattle.filter.specs.Voice.{voiceTargets};
 ghost use Rattle.extended.specs.Extended.{asymOf};
 ghost use Rattle.sentivolus.specs.Calls.{paramsOf};
@@ -119,6 +119,14 @@ pub extern "C" fn sentivolus_ratio_of(pitch: f32, reference_over_rate: f32) -> f
     ensures { λ r. ⌜ r ≡ ratioOf record { 0 = pitch } record { 0 = «reference_over_rate» } .0 ⌝ }
 {
     filter::ratio_of(Pitch(pitch), Ratio(reference_over_rate)).0
+}
+
+// Whether that ratio was greater than its cap (C-11).
+#[no_mangle]
+pub extern "C" fn sentivolus_over(pitch: f32, reference_over_rate: f32) -> bool
+    ensures { λ r. ⌜ r ≡ overOf record { 0 = pitch } record { 0 = «reference_over_rate» } ⌝ }
+{
+    filter::over_of(Pitch(pitch), Ratio(reference_over_rate))
 }
 
 #[no_mangle]

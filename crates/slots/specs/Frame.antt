@@ -14,6 +14,7 @@ use Rattle.lane.specs.Floats.{_‼_}
 use Rattle.lines.specs.declared.Ring.{Ring}
 use Rattle.lines.specs.Lines.{ringLen}
 use Rattle.run.specs.declared.FrameInput.{FrameInput}
+use Rattle.run.specs.declared.Sample.{Sample}
 use Rattle.run.specs.Run.{tickWith}
 use Rattle.run.specs.Contracts.{steeringOf, tableFor, tickOn, TickLeaves}
 use Rattle.voices.specs.Calls.{targetsWidth, recordWidth, Steering, Tick, Engine, Block, BlockRun, SlotRun}
@@ -59,38 +60,45 @@ module _ (e : Prepared) (sections tg ps xs ys : List Float) (p : Slot) (f : ℕ)
       (w .rec)
       (piece (g .len i) (h .number i) (w .delay))
 
-  pub frame-is : (at from cur : ℕ) (px py out : Float) (rec delay : List Float)
+  pub frame-is : (at from cur : ℕ) (px py : Float) (s : Sample) (rec delay : List Float)
       → at ≡ f * e .slots + p .number
       → from ≡ f * e .voices + p .voice
       → cur ≡ cursorAfter E (e .cursor) f
       → steeringOf (e .steered) px py ≡ steeringAt E (e .voices) q f (p .voice)
-      → TickLeaves (tickOn (e .m) sections (ring cur) (input from at px py) tg (w .rec) (w .delay)) (w .delay) (ring cur) out rec delay
-      → record { rec = rec; delay = delay; audio = set (w .audio) at out } ≡ frameIn e sections tg ps xs ys p f w
+      → TickLeaves (tickOn (e .m) sections (ring cur) (input from at px py) tg (w .rec) (w .delay)) (w .delay) (ring cur) s rec delay
+      → record { rec = rec; delay = delay; audio = set (w .audio) at (s .out); count = w .count + s .over } ≡ frameIn e sections tg ps xs ys p f w
   unfolding frameOf
-  frame-is at from cur px py out rec delay ha hf hc hs l =
+  frame-is at from cur px py s rec delay ha hf hc hs l =
       let place : at ≡ f * (e .channels * e .voices) + (p .channel * e .voices + p .voice) = ha ∙ (λ i. f * g .slots i + h .number i) in
       let t = tick-is at from cur px py place hf hc hs in
       λ i. record {
         rec = (l .numbers ∙ ap (λ (x : Tick). x .rec) t) i;
         delay = (l .cells ∙ (λ j. patch (g .len j) (h .number j) (t j .ring) (w .delay))) i;
         audio = set (w .audio) (place i) ((l .sample ∙ ap (λ (x : Tick). x .out) t) i);
+        count = w .count + (l .judged ∙ ap (λ (x : Tick). x .over) t) i;
       }
 
 -- A slot's frames on its loaded record, and the record stored, are the definitions' slot.
 pub slot-is : (E : Engine) (n : ℕ) (q : Block) (tg : List Float) (cur c v : ℕ) (w : BlockRun) (s : ℕ) (goals start : List Float) (l : SlotRun)
-    (records : List Float)
+    (records : List Float) (counts : List ℕ)
     → s ≡ c * n + v
     → goals ≡ tg
     → start ≡ piece recordWidth s (w .records)
-    → l ≡ upto (frameOf E n q goals cur c v) (q .frames) (record { rec = start; delay = w .delay; audio = w .audio })
+    → l ≡ upto (frameOf E n q goals cur c v) (q .frames) (record { rec = start; delay = w .delay; audio = w .audio; count = 0 })
     → records ≡ patch recordWidth s (l .rec) (w .records)
-    → record { records = records; delay = l .delay; audio = l .audio } ≡ slotOf E n q tg cur c v w
+    → counts ≡ set (w .counts) s (l .count)
+    → record { records = records; delay = l .delay; audio = l .audio; counts = counts } ≡ slotOf E n q tg cur c v w
 unfolding slotOf framesOf
-slot-is E n q tg cur c v w s goals start l records hs hg hr hl hp =
+slot-is E n q tg cur c v w s goals start l records counts hs hg hr hl hp hk =
     let loaded : start ≡ piece recordWidth (c * n + v) (w .records) = hr ∙ ap (λ (k : ℕ). piece recordWidth k (w .records)) hs in
     let z : l ≡ framesOf E n q tg cur c v (q .frames) w
-    = hl ∙ (λ i. upto (frameOf E n q (hg i) cur c v) (q .frames) (record { rec = loaded i; delay = w .delay; audio = w .audio })) in
-    λ i. record { records = (hp ∙ (λ j. patch recordWidth (hs j) (z j .rec) (w .records))) i; delay = z i .delay; audio = z i .audio }
+    = hl ∙ (λ i. upto (frameOf E n q (hg i) cur c v) (q .frames) (record { rec = loaded i; delay = w .delay; audio = w .audio; count = 0 })) in
+    λ i. record {
+      records = (hp ∙ (λ j. patch recordWidth (hs j) (z j .rec) (w .records))) i;
+      delay = z i .delay;
+      audio = z i .audio;
+      counts = (hk ∙ (λ j. set (w .counts) (hs j) (z j .count))) i;
+    }
 
 -- the ten numbers where voice v's targets stand are its piece
 pub targets-piece : (v from : ℕ) (xs goals : List Float)
@@ -99,27 +107,29 @@ unfolding piece
 targets-piece v from xs goals e h = h ∙ ap (λ (k : ℕ). take targetsWidth (drop k xs)) e
 
 -- The channels' loop is the definitions' block: a frame reads its input in the lists, not in the block's audio.
-pub block-is : (e : Prepared) (sections tg pitch x y rs ds audio : List Float)
-    → upto (channelIn e sections tg pitch x y) (e .channels) (blockRun rs ds audio)
-    ≡ blockOf (engineAt e sections) (e .voices) (blockOn e pitch x y audio) (bankAt e tg rs ds)
+pub block-is : (e : Prepared) (sections tg pitch x y rs ds audio : List Float) (counts : List ℕ)
+    → upto (channelIn e sections tg pitch x y) (e .channels) (blockRun rs ds audio counts)
+    ≡ blockOf (engineAt e sections) (e .voices) (blockOn e pitch x y audio counts) (bankAt e tg rs ds)
 unfolding blockOf slotOf framesOf frameOf
-block-is e sections tg pitch x y rs ds audio = refl
+block-is e sections tg pitch x y rs ds audio counts = refl
 
 -- ---- one turn more of a loop over the voices or the channels
 
 module _ (g : ℕ → BlockRun → BlockRun) (n : ℕ) (start : BlockRun) where
   pub swept-start : Swept g n start 0 start
-  swept-start = record { within = zero-le; lists = refl; records = refl; delay = refl; audio = refl }
+  swept-start = record { within = zero-le; lists = refl; records = refl; delay = refl; audio = refl; counts = refl }
 
   pub swept-again : (i : ℕ) (w w' : BlockRun) → Swept g n start i w → i < n → w' ≡ g i w
       → length (w' .records) ≡ length (w .records) → length (w' .delay) ≡ length (w .delay) → length (w' .audio) ≡ length (w .audio)
+      → length (w' .counts) ≡ length (w .counts)
       → Swept g n start (i + 1) w'
-  swept-again i w w' s h e r d a = record {
+  swept-again i w w' s h e r d a k = record {
     within = omega arith;
     lists = e ∙ ap (g i) (s .lists) ∙ ap (λ (k : ℕ). upto g k start) (sym (add-one i));
     records = r ∙ s .records;
     delay = d ∙ s .delay;
     audio = a ∙ s .audio;
+    counts = k ∙ s .counts;
   }
 
   pub swept-end : (i : ℕ) (w : BlockRun) → Swept g n start i w → n ≤ i → w ≡ upto g n start
@@ -129,8 +139,8 @@ module _ (g : ℕ → BlockRun → BlockRun) (n : ℕ) (start : BlockRun) where
 
 -- the lists that a turn begins with are as long as they should be
 pub swept-lists : {e : Prepared} {tg : List Float} (g : ℕ → BlockRun → BlockRun) (n i : ℕ) (start w : BlockRun) → Swept g n start i w
-    → Lists e tg (start .records) → Lists e tg (w .records)
-swept-lists g n i start w s l = record { targets = l .targets; records = s .records ∙ l .records }
+    → Lists e tg (start .records) (start .counts) → Lists e tg (w .records) (w .counts)
+swept-lists g n i start w s l = record { targets = l .targets; records = s .records ∙ l .records; counts = s .counts ∙ l .counts }
 
 pub swept-buffers : {e : Prepared} {ps xs ys : List Float} (g : ℕ → BlockRun → BlockRun) (n i : ℕ) (start w : BlockRun) → Swept g n start i w
     → Buffers e ps xs ys (start .delay) (start .audio) → Buffers e ps xs ys (w .delay) (w .audio)

@@ -32,22 +32,23 @@ soloAt e sections = record {
 abbrev pub engineAt : Prepared → (sections : List Float) → Engine
 engineAt e sections = engineOf (soloAt e sections)
 
-abbrev pub blockOn : Prepared → (pitch x y audio : List Float) → Block
-blockOn e pitch x y audio = record { frames = e .frames; pitch = pitch; steered = e .steered; x = x; y = y; audio = audio }
+abbrev pub blockOn : Prepared → (pitch x y audio : List Float) (counts : List ℕ) → Block
+blockOn e pitch x y audio counts =
+    record { frames = e .frames; pitch = pitch; steered = e .steered; x = x; y = y; audio = audio; counts = counts }
 
--- the block without its audio, which stands in the lists that it writes
+-- the block without its audio and counts, which stand in the lists that it writes
 abbrev pub blockAt : Prepared → (pitch x y : List Float) → Block
-blockAt e pitch x y = blockOn e pitch x y []
+blockAt e pitch x y = blockOn e pitch x y [] []
 
 abbrev pub bankAt : Prepared → (targets records delay : List Float) → Bank
 bankAt e tg rs ds = record { targets = tg; records = rs; delay = ds; cursor = e .cursor }
 
-abbrev pub blockRun : (records delay audio : List Float) → BlockRun
-blockRun rs ds a = record { records = rs; delay = ds; audio = a }
+abbrev pub blockRun : (records delay audio : List Float) (counts : List ℕ) → BlockRun
+blockRun rs ds a counts = record { records = rs; delay = ds; audio = a; counts = counts }
 
--- a slot's record in hand, as its ten smoothed and morph numbers and its twenty states
-abbrev pub slotRun : (params state delay audio : List Float) → SlotRun
-slotRun params state ds a = record { rec = params ++ state; delay = ds; audio = a }
+-- a slot's record in hand, as its ten smoothed and morph numbers and its twenty states, and its count
+abbrev pub slotRun : (params state delay audio : List Float) (count : ℕ) → SlotRun
+slotRun params state ds a count = record { rec = params ++ state; delay = ds; audio = a; count = count }
 
 -- ---- what the functions ask
 
@@ -77,9 +78,10 @@ pub record Buffers (e : Prepared) (ps xs ys ds au : List Float) : Type 0 where
   pub delay : length ds ≡ e .slots * e .len
   pub audio : length au ≡ e .frames * e .slots
 
-pub record Lists (e : Prepared) (tg rs : List Float) : Type 0 where
+pub record Lists (e : Prepared) (tg rs : List Float) (ks : List ℕ) : Type 0 where
   pub targets : length tg ≡ e .voices * targetsWidth
   pub records : length rs ≡ e .slots * recordWidth
+  pub counts : length ks ≡ e .slots
 
 -- ---- what they do
 
@@ -104,3 +106,4 @@ pub record Swept (g : ℕ → BlockRun → BlockRun) (n : ℕ) (start : BlockRun
   pub records : length (w .records) ≡ length (start .records)
   pub delay : length (w .delay) ≡ length (start .delay)
   pub audio : length (w .audio) ≡ length (start .audio)
+  pub counts : length (w .counts) ≡ length (start .counts)

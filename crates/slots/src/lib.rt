@@ -2,7 +2,7 @@
 ghost use mathlib.Core.Path.{_≡_};
 ghost use mathlib.Core.List.{_++_};
 ghost use mathlib.Core.Bool.{true, cond};
-ghost use Prim.Native.Nat.{_+_, _*_, _%_, _^_, _<_, _≤_};
+ghost use Prim.Native.Nat.{ℕ, _+_, _*_, _%_, _^_, _<_, _≤_};
 ghost use lib.ListN.{length, replicate, take, drop};
 ghost use lib.Seq.{paste};
 ghost use Rattle.parts.specs.Parts.{upto, patch};
@@ -164,13 +164,15 @@ fn steering_at(steered: bool, list: &[f32], i: usize) -> f32
     0.0
 }
 
-// One frame of a slot, with the slot's record in hand. `tuning` and `blended` hold the numbers kept from frame to frame.
+// One frame of a slot, with the slot's record in hand: how often it judged a ratio greater than its cap. `tuning`, `blended` and `over`
+// hold the numbers kept from frame to frame.
 fn frame(
     e: Prepared,
     sections: &[f32; 160],
     roots: &[u8; 1024],
     tuning: &mut [f32; 10],
     blended: &mut [f32; 43],
+    over: &mut u32,
     targets: &[f32; 10],
     params: &mut [f32; 10],
     state: &mut [f32; 20],
@@ -181,14 +183,15 @@ fn frame(
     audio: &mut [f32],
     p: Slot,
     f: usize,
-)
+) -> u32
     requires { ⌜ (Worked e) × (Placed e p) × (Buffers e (now pitch) (now x) (now y) (now delay) (now audio)) × (f < e .frames)
-        × (length (now params) ≡ targetsWidth) × (Keeps (e .m) (now sections) (now tuning) (now blended)) ⌝ }
-    ensures { λ _. ⌜ (slotRun (now (params .exit)) (now (state .exit)) (now (delay .exit)) (now (audio .exit))
+        × (length (now params) ≡ targetsWidth) × (Keeps (e .m) (now sections) (now tuning) (now blended) (now over)) ⌝ }
+    ensures { λ r. ⌜ ((k : ℕ) → slotRun (now (params .exit)) (now (state .exit)) (now (delay .exit)) (now (audio .exit)) (k + r)
         ≡ frameIn e (now (sections .entry)) (now (targets .entry)) (now (pitch .entry)) (now (x .entry)) (now (y .entry)) p f
-        (slotRun (now (params .entry)) (now (state .entry)) (now (delay .entry)) (now (audio .entry))))
+        (slotRun (now (params .entry)) (now (state .entry)) (now (delay .entry)) (now (audio .entry)) k))
+        × (r ≤ 8)
         × (length (now (params .exit)) ≡ targetsWidth)
-        × (Keeps (e .m) (now (sections .entry)) (now (tuning .exit)) (now (blended .exit))) ⌝ }
+        × (Keeps (e .m) (now (sections .entry)) (now (tuning .exit)) (now (blended .exit)) (now (over .exit))) ⌝ }
 {
     let m = e.m;
     let at = place_at(f, e.slots, p.number, e.frames, audio.len());
@@ -208,12 +211,13 @@ fn frame(
         x: steering_at(e.steered, x, from),
         y: steering_at(e.steered, y, from),
     };
-    let out = run::tick(
+    let s = run::tick(
         m,
         sections,
         roots,
         tuning,
         blended,
+        over,
         targets,
         params,
         state,
@@ -221,16 +225,18 @@ fn frame(
         ring,
         given,
     );
-    audio[at] = out;
+    audio[at] = s.out;
+    s.over
 }
 
-// The frames of a slot, with the slot's record in hand.
+// The frames of a slot, with the slot's record in hand: the slot's count.
 fn run_frames(
     e: Prepared,
     sections: &[f32; 160],
     roots: &[u8; 1024],
     tuning: &mut [f32; 10],
     blended: &mut [f32; 43],
+    over: &mut u32,
     targets: &[f32; 10],
     params: &mut [f32; 10],
     state: &mut [f32; 20],
@@ -240,22 +246,24 @@ fn run_frames(
     y: &[f32],
     audio: &mut [f32],
     p: Slot,
-)
+) -> u32
     requires { ⌜ (Worked e) × (Placed e p) × (Buffers e (now pitch) (now x) (now y) (now delay) (now audio))
-        × (length (now params) ≡ targetsWidth) × (Keeps (e .m) (now sections) (now tuning) (now blended)) ⌝ }
-    ensures { λ _. ⌜ slotRun (now (params .exit)) (now (state .exit)) (now (delay .exit)) (now (audio .exit))
+        × (length (now params) ≡ targetsWidth) × (Keeps (e .m) (now sections) (now tuning) (now blended) (now over)) ⌝ }
+    ensures { λ r. ⌜ slotRun (now (params .exit)) (now (state .exit)) (now (delay .exit)) (now (audio .exit)) r
         ≡ upto (frameIn e (now (sections .entry)) (now (targets .entry)) (now (pitch .entry)) (now (x .entry)) (now (y .entry)) p) (e .frames)
-        (slotRun (now (params .entry)) (now (state .entry)) (now (delay .entry)) (now (audio .entry))) ⌝ }
+        (slotRun (now (params .entry)) (now (state .entry)) (now (delay .entry)) (now (audio .entry)) 0) ⌝ }
 {
     let frames = e.frames;
+    let mut count: u32 = 0;
     let mut f: usize = 0;
     while f < frames {
-        frame(
+        let met = frame(
             e,
             sections,
             roots,
             tuning,
             blended,
+            over,
             targets,
             params,
             state,
@@ -267,11 +275,13 @@ fn run_frames(
             p,
             f,
         );
+        count += met;
         f += 1;
     }
+    count
 }
 
-// A block through one slot: its record is loaded, worked frame by frame, and stored.
+// A block through one slot: its record is loaded, worked frame by frame, and stored; its count is written.
 fn run_slot(
     e: Prepared,
     sections: &[f32; 160],
@@ -283,13 +293,14 @@ fn run_slot(
     x: &[f32],
     y: &[f32],
     audio: &mut [f32],
+    counts: &mut [u32],
     p: Slot,
 )
-    requires { ⌜ (Worked e) × (Lists e (now targets) (now records)) × (Buffers e (now pitch) (now x) (now y) (now delay) (now audio))
+    requires { ⌜ (Worked e) × (Lists e (now targets) (now records) (now counts)) × (Buffers e (now pitch) (now x) (now y) (now delay) (now audio))
         × (Placed e p) ⌝ }
-    ensures { λ _. ⌜ blockRun (now (records .exit)) (now (delay .exit)) (now (audio .exit))
+    ensures { λ _. ⌜ blockRun (now (records .exit)) (now (delay .exit)) (now (audio .exit)) (now (counts .exit))
         ≡ slotIn e (now (sections .entry)) (now (targets .entry)) (now (pitch .entry)) (now (x .entry)) (now (y .entry)) (p .channel) (p .voice)
-        (blockRun (now (records .entry)) (now (delay .entry)) (now (audio .entry))) ⌝ }
+        (blockRun (now (records .entry)) (now (delay .entry)) (now (audio .entry)) (now (counts .entry))) ⌝ }
 {
     let from = start_of(p.voice, 10, e.voices, targets.len());
     let at = start_of(p.number, 30, e.slots, records.len());
@@ -298,12 +309,14 @@ fn run_slot(
     let mut state = load_states(records, at + 10);
     let mut tuning = [0.0f32 / 0.0; 10];
     let mut blended = [0.0f32 / 0.0; 43];
-    run_frames(
+    let mut over: u32 = 0;
+    let count = run_frames(
         e,
         sections,
         roots,
         &mut tuning,
         &mut blended,
+        &mut over,
         &goals,
         &mut params,
         &mut state,
@@ -315,6 +328,8 @@ fn run_slot(
         p,
     );
     store_record(records, p.number, &params, &state);
+    let slot = p.number;
+    counts[slot] = count;
 }
 
 // A block through the slots of one channel.
@@ -329,13 +344,14 @@ fn run_channel(
     x: &[f32],
     y: &[f32],
     audio: &mut [f32],
+    counts: &mut [u32],
     channel: usize,
 )
-    requires { ⌜ (Worked e) × (Lists e (now targets) (now records)) × (Buffers e (now pitch) (now x) (now y) (now delay) (now audio))
+    requires { ⌜ (Worked e) × (Lists e (now targets) (now records) (now counts)) × (Buffers e (now pitch) (now x) (now y) (now delay) (now audio))
         × (channel < e .channels) ⌝ }
-    ensures { λ _. ⌜ blockRun (now (records .exit)) (now (delay .exit)) (now (audio .exit))
+    ensures { λ _. ⌜ blockRun (now (records .exit)) (now (delay .exit)) (now (audio .exit)) (now (counts .exit))
         ≡ channelIn e (now (sections .entry)) (now (targets .entry)) (now (pitch .entry)) (now (x .entry)) (now (y .entry)) channel
-        (blockRun (now (records .entry)) (now (delay .entry)) (now (audio .entry))) ⌝ }
+        (blockRun (now (records .entry)) (now (delay .entry)) (now (audio .entry)) (now (counts .entry))) ⌝ }
 {
     let voices = e.voices;
     let mut v: usize = 0;
@@ -352,6 +368,7 @@ fn run_channel(
             x,
             y,
             audio,
+            counts,
             p,
         );
         v += 1;
@@ -370,11 +387,12 @@ pub fn run_block(
     x: &[f32],
     y: &[f32],
     audio: &mut [f32],
+    counts: &mut [u32],
 )
-    requires { ⌜ (Worked e) × (Lists e (now targets) (now records)) × (Buffers e (now pitch) (now x) (now y) (now delay) (now audio)) ⌝ }
-    ensures { λ _. ⌜ blockRun (now (records .exit)) (now (delay .exit)) (now (audio .exit))
+    requires { ⌜ (Worked e) × (Lists e (now targets) (now records) (now counts)) × (Buffers e (now pitch) (now x) (now y) (now delay) (now audio)) ⌝ }
+    ensures { λ _. ⌜ blockRun (now (records .exit)) (now (delay .exit)) (now (audio .exit)) (now (counts .exit))
         ≡ blockOf (engineAt e (now (sections .entry))) (e .voices)
-        (blockOn e (now (pitch .entry)) (now (x .entry)) (now (y .entry)) (now (audio .entry)))
+        (blockOn e (now (pitch .entry)) (now (x .entry)) (now (y .entry)) (now (audio .entry)) (now (counts .entry)))
         (bankAt e (now (targets .entry)) (now (records .entry)) (now (delay .entry))) ⌝ }
 {
     let channels = e.channels;
@@ -391,6 +409,7 @@ pub fn run_block(
             x,
             y,
             audio,
+            counts,
             c,
         );
         c += 1;

@@ -2,7 +2,7 @@
 -- the pitch and the settings alone, and the step over the input and the states. `..With` is the first part from what follows
 -- from the pitch and the character alone. Definitions only. Assumes nothing.
 use Prim.Native.Nat.{ℕ, _*_, _+_, _^_}
-use mathlib.Core.Bool.{true}
+use mathlib.Core.Bool.{Bool, true}
 use mathlib.Core.List.{List, [], _∷_}
 use lib.Seq.{sets}
 use lib.Ieee.{Float, inf, neg}
@@ -11,7 +11,7 @@ use Rattle.lane.specs.Floats.{_⊕_, _⊖_, _⊗_, _⊘_, _‼_, fma, decimal, 
 use Rattle.lane.specs.Lane.{maxOf, minOf}
 use Rattle.filter.specs.declared.Pitch.{Pitch}
 use Rattle.filter.specs.declared.Stage.{Stage}
-use Rattle.filter.specs.Filter.{gainOf, svfOf, svfK, saturatedK}
+use Rattle.filter.specs.Filter.{gainOf, overOf, svfOf, svfK, saturatedK}
 use Rattle.extended.specs.declared.Settings.{Settings}
 use Rattle.extended.specs.Extended.{Ticked, unitOr0, absOf, asymOf}
 use Rattle.sweeps.specs.declared.BuzzMorph.{BuzzMorph}
@@ -114,6 +114,12 @@ djCoefficients pitch p =
     let lowSide = unitOr0 (neg d ⊗ whole 1000000) in
     let u = djDepth d in
     djWith (gainOf (djPitch lowSide u) (p .«ref_over_rate»)) lowSide (minOf (u ⊗ (one ⊘ djFade)) one) p
+
+-- document 02, C-11: the mark of the ratio that it caps, which is that of the sweep's own cutoff
+unfoldable pub djOver : Pitch → Settings → Bool
+djOver pitch p =
+    let d = djDistance pitch in
+    overOf (djPitch (unitOr0 (neg d ⊗ whole 1000000)) (djDepth d)) (p .«ref_over_rate»)
 
 -- the stage's step, and what it makes of x before the mix
 unfoldable pub djStage : DjSweep → (state : List Float) (x : Float) → Stage

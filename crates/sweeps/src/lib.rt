@@ -4,7 +4,7 @@ ghost use mathlib.Core.Path.{_≡_};
 ghost use Prim.Native.Nat.{_<_};
 ghost use Rattle.extended.specs.Extended.{ticked};
 ghost use Rattle.sweeps.specs.Sweeps.{buzzWith, buzzMix, buzzStep};
-ghost use Rattle.sweeps.specs.Sweeps.{djDistance, djDepth, djPitch, djK, djCoefficients, djWith, djFiltered, djStep};
+ghost use Rattle.sweeps.specs.Sweeps.{djDistance, djDepth, djPitch, djK, djCoefficients, djOver, djWith, djFiltered, djStep};
 ghost use Rattle.sweeps.specs.Sweeps.{diffuserK, diffuserWeight, diffuserWith, diffuseStage, diffuserStep};
 use extended::Settings;
 use filter::Pitch;
@@ -129,15 +129,24 @@ pub fn dj_with(g: f32, low_side: f32, wet: f32, p: Settings) -> DjSweep
     }
 }
 
-pub fn dj_coefficients(pitch: Pitch, p: Settings) -> DjSweep
-    ensures { λ r. ⌜ r ≡ djCoefficients pitch p ⌝ }
+// The sweep, and whether the ratio of its own cutoff was greater than the cap.
+pub struct JudgedSweep {
+    pub sweep: DjSweep,
+    pub over: bool,
+}
+
+pub fn dj_coefficients(pitch: Pitch, p: Settings) -> JudgedSweep
+    ensures { λ r. ⌜ (r .sweep ≡ djCoefficients pitch p) × (r .over ≡ djOver pitch p) ⌝ }
 {
     let reference = p.ref_over_rate;
     let d = dj_distance(pitch);
     let low_side = extended::unit(-d * 1000000.0);
     let u = dj_depth(d);
-    let g = filter::gain(dj_pitch(low_side, u), reference);
-    dj_with(g, low_side, lane::min(u * (1.0 / DJ_FADE), 1.0), p)
+    let gain = filter::judged_gain(dj_pitch(low_side, u), reference);
+    JudgedSweep {
+        sweep: dj_with(gain.g, low_side, lane::min(u * (1.0 / DJ_FADE), 1.0), p),
+        over: gain.over,
+    }
 }
 
 fn dj_filtered(c: DjSweep, x: f32, s: Stage) -> f32

@@ -55,6 +55,7 @@ module _ (E : Engine) (n : ℕ) where
     pub x : length (q .x) ≡ steeringLength E n q
     pub y : length (q .y) ≡ steeringLength E n q
     pub audio : length (q .audio) ≡ q .frames * (channels * n)
+    pub counts : length (q .counts) ≡ channels * n
 
   store-accepted : (b : Bank) → storeCheck E n b ≡ fine → Lengths b
   store-accepted b e =
@@ -91,7 +92,8 @@ module _ (E : Engine) (n : ℕ) where
       let c2 = then-fine _ _ (c1 .1) in
       let c3 = then-fine _ _ (c2 .1) in
       let f = and-true _ _ (check-fine _ _ (c3 .0)) in
-      let a = and-true _ _ (check-fine _ _ (c3 .1)) in
+      let m = and-true _ _ (check-fine _ _ (c3 .1)) in
+      let a = and-true _ _ (m .0) in
       let y = and-true _ _ (a .0) in
       let x = and-true _ _ (y .0) in
       record {
@@ -103,4 +105,5 @@ module _ (E : Engine) (n : ℕ) where
         x = eqb-true _ _ (x .1);
         y = eqb-true _ _ (y .1);
         audio = eqb-true _ _ (a .1);
+        counts = eqb-true _ _ (m .1);
       }

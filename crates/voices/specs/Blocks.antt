@@ -1,10 +1,10 @@
 -- For the proofs: nothing here must be believed.
--- A slot under block: its own frames are the plain voice's, and the frames of every other slot leave its record, ring and audio as they were.
+-- A slot under block: its own frames are the plain voice's, and the frames of every other slot leave its record, ring, audio and count as they were.
 -- By induction over the frames of one slot, then over channels and voices (`upto-focus`). A tick is used by its lengths alone. Assumes nothing.
 use mathlib.Core.Path.{_≡_, refl, sym, ap, _∙_, subst}
 use mathlib.Core.Logic.{_≢_}
 use Prim.Native.Nat.{ℕ, suc, _+_, _*_, _≤_, _<_}
-use native.Mathlib.Nat.{le-refl, le-of-lt}
+use native.Mathlib.Nat.{add-zero, add-assoc, le-refl, le-of-lt}
 use native.Mathlib.Omega.{arith}
 use mathlib.Core.List.{List, [], _∷_, _++_, append-assoc, append-nil}
 use lib.Ieee.{Float, nan}
@@ -16,7 +16,7 @@ use Rattle.parts.specs.Laws.{length-patch, piece-patch, piece-other}
 use Rattle.voices.specs.Calls.{targetsWidth, recordWidth, Tick, Engine, Laws, Bank, Block, BlockRun, SlotRun, cursorAfter, slot, pitchIndex}
 use Rattle.voices.specs.Calls.{audioIndex, steeringAt, tickAt, frameOf, framesOf, slotOf, blockOf}
 use Rattle.voices.specs.Feed.{PlainVoice, advance, tickChannel, frameAt}
-use Rattle.voices.specs.Accepted.{Lengths}
+use Rattle.voices.specs.Accepted.{BlockAccepted}
 use Rattle.voices.specs.Slots.{slot-fits, voices-differ, channels-differ}
 use Rattle.voices.specs.Plain.{afterFrames, frames-targets, frames-cursor}
 
@@ -28,6 +28,7 @@ module _ (E : Engine) (laws : Laws E) (n : ℕ) (q : Block) where
     records : length (w .records) ≡ channels * n * recordWidth
     delay : length (w .delay) ≡ channels * n * ringLength
     audio : length (w .audio) ≡ q .frames * (channels * n)
+    counts : length (w .counts) ≡ channels * n
 
   record SlotLengths (l : SlotRun) : Type 0 where
     rec : length (l .rec) ≡ recordWidth
@@ -38,12 +39,13 @@ module _ (E : Engine) (laws : Laws E) (n : ℕ) (q : Block) where
   abbrev slotAudio : ℕ → ℕ → List Float → List Float
   slotAudio i u a = tab (λ k. getD a (audioIndex E n k i u) nan) (q .frames)
 
-  -- while the block goes on, the slot of i and u holds the record r, the ring d and the samples a
-  pub record SlotHolds (i u : ℕ) (r d a : List Float) (w : BlockRun) : Type 0 where
+  -- while the block goes on, the slot of i and u holds the record r, the ring d, the samples a and the count m
+  pub record SlotHolds (i u : ℕ) (r d a : List Float) (m : ℕ) (w : BlockRun) : Type 0 where
     lengths : BlockLengths w
     pub rec : piece recordWidth (slot E n i u) (w .records) ≡ r
     pub ring : piece ringLength (slot E n i u) (w .delay) ≡ d
     pub audio : slotAudio i u (w .audio) ≡ a
+    pub count : getD (w .counts) (slot E n i u) 0 ≡ m
 
   -- ---- the run of one slot
   module _ (tg : List Float) (ht : length tg ≡ targetsWidth) (cur c v : ℕ) (hc : c < channels) (hv : v < n) where
@@ -64,9 +66,9 @@ module _ (E : Engine) (laws : Laws E) (n : ℕ) (q : Block) where
       audio = length-set (l .audio) _ _ ∙ g .audio;
     }
 
-    first-lengths : (w : BlockRun) → BlockLengths w
-        → SlotLengths (record { rec = piece recordWidth (slot E n c v) (w .records); delay = w .delay; audio = w .audio })
-    first-lengths w g = record {
+    first-lengths : (w : BlockRun) (m : ℕ) → BlockLengths w
+        → SlotLengths (record { rec = piece recordWidth (slot E n c v) (w .records); delay = w .delay; audio = w .audio; count = m })
+    first-lengths w m g = record {
       rec = length-piece recordWidth (slot E n c v) (w .records) (rw (g .records) (slot-fits E n c v recordWidth hc hv));
       delay = g .delay;
       audio = g .audio;
@@ -74,7 +76,7 @@ module _ (E : Engine) (laws : Laws E) (n : ℕ) (q : Block) where
 
     frames-lengths : (k : ℕ) (w : BlockRun) → BlockLengths w → SlotLengths (framesOf E n q tg cur c v k w)
     unfolding framesOf
-    frames-lengths k w g = upto-keep SlotLengths (frameOf E n q tg cur c v) k _ (λ i l h s. frame-lengths i l s) (first-lengths w g)
+    frames-lengths k w g = upto-keep SlotLengths (frameOf E n q tg cur c v) k _ (λ i l h s. frame-lengths i l s) (first-lengths w _ g)
 
     slot-lengths : (w : BlockRun) → BlockLengths w → BlockLengths (slotOf E n q tg cur c v w)
     unfolding slotOf
@@ -85,6 +87,7 @@ module _ (E : Engine) (laws : Laws E) (n : ℕ) (q : Block) where
               ∙ g .records;
           delay = l .delay;
           audio = l .audio;
+          counts = length-set (w .counts) _ _ ∙ g .counts;
         }
 
     -- ---- another slot meanwhile
@@ -105,11 +108,11 @@ module _ (E : Engine) (laws : Laws E) (n : ℕ) (q : Block) where
                 (λ z. ne (flat-low (channels * n) f k (slot E n i u) (slot E n c v) (flat-lt channels n i u hi hu) (flat-lt channels n c v hc hv) z))
                 ∙ s .audio f;
           })
-          (record { lengths = first-lengths w g; ring = refl; audio = λ f. refl })
+          (record { lengths = first-lengths w _ g; ring = refl; audio = λ f. refl })
 
-      slot-other : (r d a : List Float) (w : BlockRun) → SlotHolds i u r d a w → SlotHolds i u r d a (slotOf E n q tg cur c v w)
+      slot-other : (r d a : List Float) (m : ℕ) (w : BlockRun) → SlotHolds i u r d a m w → SlotHolds i u r d a m (slotOf E n q tg cur c v w)
       unfolding slotOf
-      slot-other r d a w s =
+      slot-other r d a m w s =
           let g = s .lengths in
           let x = frames-other w g in
           record {
@@ -119,6 +122,7 @@ module _ (E : Engine) (laws : Laws E) (n : ℕ) (q : Block) where
                 ∙ s .rec;
             ring = x .ring ∙ s .ring;
             audio = tab-same _ _ (q .frames) (λ f h. x .audio f) ∙ s .audio;
+            count = getD-set-other (w .counts) (slot E n c v) (slot E n i u) _ 0 ne ∙ s .count;
           }
 
     -- ---- the slot's own run, beside the plain voice p
@@ -126,13 +130,14 @@ module _ (E : Engine) (laws : Laws E) (n : ℕ) (q : Block) where
       abbrev after : ℕ → PlainVoice
       after k = afterFrames E (frameAt E n q v) k p
 
-      -- k frames in: samples given so far, and inputs still to come
+      -- k frames in: samples given so far, inputs still to come, and what the plain voice's count has gained
       record OwnRun (k : ℕ) (l : SlotRun) : Type 0 where
         lengths : SlotLengths l
         rec : l .rec ≡ after k .channel c .rec
         ring : piece ringLength (slot E n c v) (l .delay) ≡ after k .channel c .ring
         given : p .channel c .samples ++ tab (λ f. getD (l .audio) (audioIndex E n f c v) nan) k ≡ after k .channel c .samples
         ahead : (f : ℕ) → k ≤ f → f < q .frames → getD (l .audio) (audioIndex E n f c v) nan ≡ getD (q .audio) (audioIndex E n f c v) nan
+        count : p .channel c .count + l .count ≡ after k .channel c .count
 
       frames-differ : (f k : ℕ) → f ≢ k → audioIndex E n f c v ≢ audioIndex E n k c v
       frames-differ f k ne e = ne (flat-high (channels * n) f k (slot E n c v) (slot E n c v) (flat-lt channels n c v hc hv) (flat-lt channels n c v hc hv) e)
@@ -175,28 +180,32 @@ module _ (E : Engine) (laws : Laws E) (n : ℕ) (q : Block) where
                 ∙ (λ i. old i ++ last i ∷ []);
             ahead = λ f a b. getD-set-other (l .audio) (audioIndex E n k c v) (audioIndex E n f c v) _ nan (frames-differ f k (omega arith))
                 ∙ s .ahead f (le-of-lt a) b;
+            count = sym (add-assoc (p .channel c .count) (l .count) (slotTick k l .over)) ∙ (λ i. s .count i + t i .over);
           }
 
       abbrev Before : BlockRun → Type 0
-      Before w = SlotHolds c v (p .channel c .rec) (p .channel c .ring) (slotAudio c v (q .audio)) w
+      Before w = SlotHolds c v (p .channel c .rec) (p .channel c .ring) (slotAudio c v (q .audio)) (getD (q .counts) (slot E n c v) 0) w
 
       abbrev pub After : BlockRun → Type 0
       After w =
           (a : List Float)
-          × SlotHolds c v (after (q .frames) .channel c .rec) (after (q .frames) .channel c .ring) a w
+          × (m : ℕ)
+          × SlotHolds c v (after (q .frames) .channel c .rec) (after (q .frames) .channel c .ring) a m w
           × (p .channel c .samples ++ a ≡ after (q .frames) .channel c .samples)
+          × (p .channel c .count + m ≡ after (q .frames) .channel c .count)
 
       own-frames : (w : BlockRun) → Before w → OwnRun (q .frames) (framesOf E n q tg cur c v (q .frames) w)
       unfolding framesOf
       own-frames w s =
           upto-count OwnRun (frameOf E n q tg cur c v) (q .frames) _ own-frame
           (record {
-            lengths = first-lengths w (s .lengths);
+            lengths = first-lengths w _ (s .lengths);
             rec = s .rec;
             ring = s .ring;
             given = append-nil (p .channel c .samples);
             ahead = λ f a b. sym (tab-at (λ k. getD (w .audio) (audioIndex E n k c v) nan) (q .frames) f nan b)
                 ∙ ap (λ (x : List Float). getD x f nan) (s .audio) ∙ tab-at (λ k. getD (q .audio) (audioIndex E n k c v) nan) (q .frames) f nan b;
+            count = add-zero (p .channel c .count);
           })
 
       slot-own : (w : BlockRun) → Before w → After (slotOf E n q tg cur c v w)
@@ -205,22 +214,25 @@ module _ (E : Engine) (laws : Laws E) (n : ℕ) (q : Block) where
           let g = s .lengths in
           let r = own-frames w s in (
             slotAudio c v (framesOf E n q tg cur c v (q .frames) w .audio),
+            framesOf E n q tg cur c v (q .frames) w .count,
             record {
               lengths = slot-lengths w g;
               rec = piece-patch recordWidth (slot E n c v) _ (w .records) (rw (g .records) (slot-fits E n c v recordWidth hc hv)) (r .lengths .rec) ∙ r .rec;
               ring = r .ring;
               audio = refl;
+              count = getD-set-same (w .counts) (slot E n c v) _ 0 (rw (g .counts) (flat-lt channels n c v hc hv));
             },
             r .given,
+            r .count,
           )
 
   -- ---- the whole block, at the slot of c and v
-  module _ (b : Bank) (g : Lengths E n b) (la : length (q .audio) ≡ q .frames * (channels * n)) (v : ℕ) (hv : v < n) where
+  module _ (b : Bank) (ok : BlockAccepted E n q b) (v : ℕ) (hv : v < n) where
     abbrev pub targetsAt : ℕ → List Float
     targetsAt u = piece targetsWidth u (b .targets)
 
     pub targetsAt-length : (u : ℕ) → u < n → length (targetsAt u) ≡ targetsWidth
-    targetsAt-length u hu = length-piece targetsWidth u (b .targets) (rw (g .targets) (piece-fits targetsWidth u n hu))
+    targetsAt-length u hu = length-piece targetsWidth u (b .targets) (rw (ok .lengths .targets) (piece-fits targetsWidth u n hu))
 
     module _ (p : PlainVoice) (et : targetsAt v ≡ p .targets) (ec : b .cursor ≡ p .cursor) (ew : cursorAfter E (b .cursor) 0 ≡ b .cursor) where
       pub block-slot : (c : ℕ) (hc : c < channels)
@@ -230,16 +242,22 @@ module _ (E : Engine) (laws : Laws E) (n : ℕ) (q : Block) where
       unfolding blockOf
       block-slot c hc er ed =
           upto-focus B A (λ i. upto (λ u. slotOf E n q (targetsAt u) (b .cursor) i u) n) channels c _
-          (λ i y hi ne h. upto-keep B _ n y (λ u z hu s. other i u hi hu (channels-differ E n c v i u hv hu (λ e. ne (sym e))) _ _ _ z s) h)
+          (λ i y hi ne h. upto-keep B _ n y (λ u z hu s. other i u hi hu (channels-differ E n c v i u hv hu (λ e. ne (sym e))) _ _ _ _ z s) h)
           (λ y h. upto-focus B A _ n v y
-          (λ u z hu ne s. other c u hc hu (voices-differ E n c v c u hv hu (λ e. ne (sym e))) _ _ _ z s)
+          (λ u z hu ne s. other c u hc hu (voices-differ E n c v c u hv hu (λ e. ne (sym e))) _ _ _ _ z s)
           (λ z s. slot-own (targetsAt v) (targetsAt-length v hv) (b .cursor) c v hc hv p et ec ew z s)
-          (λ u z hu ne s. (s .0, other c u hc hu (voices-differ E n c v c u hv hu (λ e. ne (sym e))) _ _ _ z (s .1), s .2))
+          (λ u z hu ne s. (s .0, s .1, other c u hc hu (voices-differ E n c v c u hv hu (λ e. ne (sym e))) _ _ _ _ z (s .2), s .3, s .4))
           hv h)
           (λ i y hi ne h. upto-keep A _ n y
-          (λ u z hu s. (s .0, other i u hi hu (channels-differ E n c v i u hv hu (λ e. ne (sym e))) _ _ _ z (s .1), s .2)) h)
+          (λ u z hu s. (s .0, s .1, other i u hi hu (channels-differ E n c v i u hv hu (λ e. ne (sym e))) _ _ _ _ z (s .2), s .3, s .4)) h)
           hc
-          (record { lengths = record { records = g .records; delay = g .delay; audio = la }; rec = er; ring = ed; audio = refl })
+          (record {
+            lengths = record { records = ok .lengths .records; delay = ok .lengths .delay; audio = ok .audio; counts = ok .counts };
+            rec = er;
+            ring = ed;
+            audio = refl;
+            count = refl;
+          })
         where
           B : BlockRun → Type 0
           B = Before (targetsAt v) (targetsAt-length v hv) (b .cursor) c v hc hv p et ec ew
@@ -248,5 +266,6 @@ module _ (E : Engine) (laws : Laws E) (n : ℕ) (q : Block) where
           A = After (targetsAt v) (targetsAt-length v hv) (b .cursor) c v hc hv p et ec ew
 
           other : (i u : ℕ) → i < channels → (hu : u < n) → slot E n c v ≢ slot E n i u
-              → (r d a : List Float) (z : BlockRun) → SlotHolds c v r d a z → SlotHolds c v r d a (slotOf E n q (targetsAt u) (b .cursor) i u z)
-          other i u hi hu ne r d a z s = slot-other (targetsAt u) (targetsAt-length u hu) (b .cursor) i u hi hu c v hc hv ne r d a z s
+              → (r d a : List Float) (m : ℕ) (z : BlockRun)
+              → SlotHolds c v r d a m z → SlotHolds c v r d a m (slotOf E n q (targetsAt u) (b .cursor) i u z)
+          other i u hi hu ne r d a m z s = slot-other (targetsAt u) (targetsAt-length u hu) (b .cursor) i u hi hu c v hc hv ne r d a m z s

@@ -1,4 +1,4 @@
--- The bank's calls on flat lists (document 01, 'A bank is opened' and 'One block goes through'). Definitions only.
+-- The bank's calls on flat lists (document 01, 'A bank is opened' and 'One block goes through'; document 02, C-11). Definitions only.
 -- What the layers below make of a setup (its checks, targets_of, one tick) is an `Engine`; polyphony is the number n.
 use mathlib.Core.Path.{_≡_}
 use Prim.Native.Nat.{ℕ, _+_, _*_, _%_, _^_, _<_}
@@ -55,11 +55,12 @@ refused k then c = refused k
 abbrev pub Steering : Type 0
 Steering = Option (Float × Float)
 
--- what one tick of a slot leaves: its record, its ring and the sample
+-- what one tick of a slot leaves: its record, its ring and the sample, and how often it judged a ratio greater than its cap (C-11)
 pub record Tick : Type 0 where
   pub rec : List Float
   pub ring : List Float
   pub out : Float
+  pub over : ℕ
 
 pub record Engine : Type 1 where
   -- a voice's settings (VoiceParams), their defaults, whether no knob is NaN, and their ten targets
@@ -95,7 +96,7 @@ pub record Bank : Type 0 where
   pub delay : List Float
   pub cursor : ℕ
 
--- what block is given beside the bank
+-- what block is given beside the bank; `counts` is C-11's list, one number a slot
 pub record Block : Type 0 where
   pub frames : ℕ
   pub pitch : List Float
@@ -103,33 +104,37 @@ pub record Block : Type 0 where
   pub x : List Float
   pub y : List Float
   pub audio : List Float
+  pub counts : List ℕ
 
 pub data Call (S : Type 0) : Type 0 where
   callSet : (voice : ℕ) → S → Call S
   callStart : (voice : ℕ) → Call S
   callBlock : Block → Call S
 
--- a refusal's number; of set and start the cursor they were given; of block the new cursor and the frames rendered, here with the audio that it left
+-- a refusal's number; of set and start the cursor they were given; of block the new cursor and the frames rendered, here with the audio and
+-- the counts that it left
 pub data Answer : Type 0 where
   refusedCall : ℕ → Answer
   kept : (cursor : ℕ) → Answer
-  rendered : (cursor frames : ℕ) → (audio : List Float) → Answer
+  rendered : (cursor frames : ℕ) → (audio : List Float) → (counts : List ℕ) → Answer
 
 -- a bank and its answers so far, the newest first
 pub record Run : Type 0 where
   pub bank : Bank
   pub log : List Answer
 
--- while a block goes on: the lists that it writes; and the same with one slot's record in hand
+-- while a block goes on: the lists that it writes; and the same with one slot's record and count in hand
 pub record BlockRun : Type 0 where
   pub records : List Float
   pub delay : List Float
   pub audio : List Float
+  pub counts : List ℕ
 
 pub record SlotRun : Type 0 where
   pub rec : List Float
   pub delay : List Float
   pub audio : List Float
+  pub count : ℕ
 
 module _ (E : Engine) where
   open Engine E using (S, defaults, knobs, targetsOf, channels, ringLength, lines, setupCheck, tick)
@@ -184,7 +189,7 @@ module _ (E : Engine) where
     abbrev pub framesCheck : Block → Check
     framesCheck q = check (leb leastFrames (q .frames) && leb (q .frames) mostFrames) 9
 
-    -- 10: a steered block has x and y of pitch's length, an unsteered one empty x and y
+    -- 10: a steered block has x and y of pitch's length, an unsteered one empty x and y; counts has one number a slot (C-11)
     abbrev pub steeringLength : Block → ℕ
     steeringLength q = cond (q .steered) (q .frames * n) 0
 
@@ -194,7 +199,8 @@ module _ (E : Engine) where
         (eqb (length (q .pitch)) (q .frames * n)
         && eqb (length (q .x)) (steeringLength q)
         && eqb (length (q .y)) (steeringLength q)
-        && eqb (length (q .audio)) (q .frames * (channels * n)))
+        && eqb (length (q .audio)) (q .frames * (channels * n))
+        && eqb (length (q .counts)) (channels * n))
         10
 
     -- each call makes the checks whose values it takes, in that order
@@ -238,26 +244,39 @@ module _ (E : Engine) where
     abbrev pub tickAt : Block → (tg : List Float) (cursor c v k : ℕ) (audio rec ring : List Float) → Tick
     tickAt q tg cur c v k audio r d = tick c tg (cursorAfter cur k) (q .pitch ‼ pitchIndex k v) (audio ‼ audioIndex k c v) (steeringAt q k v) r d
 
-    -- what it leaves: the record in hand, the slot's ring and the frame's sample
+    -- what it leaves: the record in hand, the slot's ring and the frame's sample, and the count with this tick's
     unfoldable pub frameOf : Block → (tg : List Float) (cursor c v k : ℕ) → SlotRun → SlotRun
     frameOf q tg cur c v k w =
         let s = slot c v in
         let t = tickAt q tg cur c v k (w .audio) (w .rec) (piece ringLength s (w .delay)) in
-        record { rec = t .rec; delay = patch ringLength s (t .ring) (w .delay); audio = set (w .audio) (audioIndex k c v) (t .out) }
+        record {
+          rec = t .rec;
+          delay = patch ringLength s (t .ring) (w .delay);
+          audio = set (w .audio) (audioIndex k c v) (t .out);
+          count = w .count + t .over;
+        }
 
-    -- the first k frames of a slot
+    -- the first k frames of a slot, whose count begins at 0
     unfoldable pub framesOf : Block → (tg : List Float) (cursor c v k : ℕ) → BlockRun → SlotRun
-    framesOf q tg cur c v k w = upto (frameOf q tg cur c v) k (record { rec = piece recordWidth (slot c v) (w .records); delay = w .delay; audio = w .audio })
+    framesOf q tg cur c v k w =
+        upto (frameOf q tg cur c v) k
+        (record { rec = piece recordWidth (slot c v) (w .records); delay = w .delay; audio = w .audio; count = 0 })
 
+    -- the slot's record and count are written
     unfoldable pub slotOf : Block → (tg : List Float) (cursor c v : ℕ) → BlockRun → BlockRun
     slotOf q tg cur c v w =
         let l = framesOf q tg cur c v (q .frames) w in
-        record { records = patch recordWidth (slot c v) (l .rec) (w .records); delay = l .delay; audio = l .audio }
+        record {
+          records = patch recordWidth (slot c v) (l .rec) (w .records);
+          delay = l .delay;
+          audio = l .audio;
+          counts = set (w .counts) (slot c v) (l .count);
+        }
 
     unfoldable pub blockOf : Block → Bank → BlockRun
     blockOf q b =
         upto (λ c. upto (λ v. slotOf q (piece targetsWidth v (b .targets)) (b .cursor) c v) n) channels
-        (record { records = b .records; delay = b .delay; audio = q .audio })
+        (record { records = b .records; delay = b .delay; audio = q .audio; counts = q .counts })
 
     -- ---- the calls, whole: what they leave and answer
 
@@ -269,7 +288,7 @@ module _ (E : Engine) where
         let cur = cursorAfter (r .bank .cursor) (q .frames) in
         record {
           bank = record { targets = r .bank .targets; records = w .records; delay = w .delay; cursor = cur };
-          log = rendered cur (q .frames) (w .audio) ∷ r .log;
+          log = rendered cur (q .frames) (w .audio) (w .counts) ∷ r .log;
         }
 
     -- a refusal answers its number alone; lists and cursor keep their values

@@ -12,10 +12,10 @@ use Rattle.parts.specs.Parts.{tab, piece, patch}
 use Rattle.voices.specs.Calls.{targetsWidth, recordWidth, fine, refused, check, _then_, Engine, Laws, Bank, Block, Call, callSet, callStart}
 use Rattle.voices.specs.Calls.{callBlock, cursorAfter, setOf, startSlot, startOf, openOf, frameOf, framesOf, slotOf, blockOf, slot, openVerdict}
 use Rattle.voices.specs.Calls.{verdict, Run, run, opened}
-use Rattle.voices.specs.Feed.{Frame, Event, eventStart, eventFrame, started, fresh, tickChannel, advance, voiceOf, feed, samplesOf}
+use Rattle.voices.specs.Feed.{Frame, Event, eventStart, eventFrame, started, fresh, tickChannel, advance, voiceOf, feed, samplesOf, countOf}
 use Rattle.voices.specs.Voice.{TwoBanks, corollary}
 
--- two channels, rings of four; a tick sums the pitches in the record and adds to its input that of three frames ago
+-- two channels, rings of four; a tick sums the pitches in the record, adds to its input that of three frames ago and counts by channel and cursor
 unfoldable pub exampleEngine : Engine
 exampleEngine = record {
   S = Float;
@@ -30,6 +30,7 @@ exampleEngine = record {
     rec = set r 0 (add binary32 (getD r 0 nan) p);
     ring = set d (cur % 4) i;
     out = add binary32 i (getD d ((cur + 1) % 4) nan);
+    over = c + 1 + cur;
   };
 }
 
@@ -57,7 +58,7 @@ abbrev number : ℕ → Float
 number k = ofBits binary32 k
 
 block : Block
-block = record { frames = 2; pitch = tab number 6; steered = false; x = []; y = []; audio = tab number 12 }
+block = record { frames = 2; pitch = tab number 6; steered = false; x = []; y = []; audio = tab number 12; counts = tab (λ k. 90 + k) 6 }
 
 calls : List (Call (exampleEngine .S))
 unfolding exampleEngine
@@ -89,7 +90,9 @@ side-by-side :
     (piece recordWidth (slot exampleEngine 3 1 1) (after .bank .records) ≡ voiceOf exampleEngine feedOfOne .channel 1 .rec)
     × (piece 4 (slot exampleEngine 3 1 1) (after .bank .delay) ≡ voiceOf exampleEngine feedOfOne .channel 1 .ring)
     × (samplesOf exampleEngine 3 1 1 (after .log) ≡ voiceOf exampleEngine feedOfOne .channel 1 .samples)
+    × (countOf exampleEngine 3 1 1 (after .log) ≡ 14)
+    × (voiceOf exampleEngine feedOfOne .channel 1 .count ≡ 14)
     × (after .bank .cursor ≡ voiceOf exampleEngine feedOfOne .cursor)
 unfolding exampleEngine check _then_ lists block calls after feedOfOne fresh started tickChannel advance
     openOf startOf startSlot setOf blockOf slotOf framesOf frameOf piece patch cursorAfter
-side-by-side = (refl, refl, refl, refl)
+side-by-side = (refl, refl, refl, refl, refl, refl)

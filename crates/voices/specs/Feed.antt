@@ -1,4 +1,4 @@
--- The feed of a voice, the plain voice, and what is compared (document 01, 'A voice from its feed'). Definitions only.
+-- The feed of a voice, the plain voice, and what is compared (document 01, 'A voice from its feed'; document 02, C-11). Definitions only.
 -- 'Feed' and 'plain voice' are that section's terms: what a list of calls tells one voice, and one voice worked from that alone.
 use mathlib.Core.Path.{_≡_}
 use Prim.Native.Nat.{ℕ, suc, _+_, _<_}
@@ -6,6 +6,7 @@ use mathlib.Core.Bool.{cond}
 use mathlib.Core.List.{List, [], _∷_, _++_}
 use lib.Ieee.{Float}
 use lib.Dec.{eqb}
+use lib.ListN.{getD}
 use Rattle.lane.specs.Floats.{_‼_}
 use Rattle.parts.specs.Parts.{tab, piece}
 use Rattle.voices.specs.Calls.{targetsWidth, recordWidth, Check, fine, refused, Steering, Engine, Block, Call, callSet, callStart, callBlock}
@@ -35,13 +36,15 @@ abbrev pub framesRendered : List Answer → ℕ
 framesRendered [] = 0
 framesRendered (refusedCall k ∷ l) = framesRendered l
 framesRendered (kept cur ∷ l) = framesRendered l
-framesRendered (rendered cur f a ∷ l) = framesRendered l + f
+framesRendered (rendered cur f a counts ∷ l) = framesRendered l + f
 
--- the plain voice keeps targets, a cursor and, for each channel, a record and a ring; with them the samples that it has given
+-- the plain voice keeps targets, a cursor and, for each channel, a record and a ring; with them the samples that it has given, and how
+-- often it judged a ratio greater than its cap (C-11)
 pub record Channel : Type 0 where
   pub rec : List Float
   pub ring : List Float
   pub samples : List Float
+  pub count : ℕ
 
 pub record PlainVoice : Type 0 where
   pub targets : List Float
@@ -53,23 +56,23 @@ module _ (E : Engine) where
 
   -- ---- the plain voice
 
-  unfoldable pub started : (targets samples : List Float) → Channel
-  started tg out = record { rec = startRecord E tg; ring = startRing E; samples = out }
+  unfoldable pub started : (targets samples : List Float) (count : ℕ) → Channel
+  started tg out count = record { rec = startRecord E tg; ring = startRing E; samples = out; count = count }
 
   -- it begins with the targets of the defaults, started, and cursor 0
   unfoldable pub fresh : PlainVoice
-  fresh = record { targets = targetsOf defaults; cursor = 0; channel = λ c. started (targetsOf defaults) [] }
+  fresh = record { targets = targetsOf defaults; cursor = 0; channel = λ c. started (targetsOf defaults) [] 0 }
 
   -- one tick of channel c
   unfoldable pub tickChannel : Frame → (c : ℕ) (targets : List Float) (cursor : ℕ) → Channel → Channel
   tickChannel f c tg cur w =
       let t = tick c tg cur (f .pitch) (f .inputs ‼ c) (f .steering) (w .rec) (w .ring) in
-      record { rec = t .rec; ring = t .ring; samples = w .samples ++ t .out ∷ [] }
+      record { rec = t .rec; ring = t .ring; samples = w .samples ++ t .out ∷ []; count = w .count + t .over }
 
   -- a set replaces the targets; a start starts every channel; a frame ticks every channel once, then the cursor moves on by one
   unfoldable pub advance : Event S → PlainVoice → PlainVoice
   advance (eventSet s) p = record { targets = targetsOf s; cursor = p .cursor; channel = p .channel }
-  advance eventStart p = record { targets = p .targets; cursor = p .cursor; channel = λ c. started (p .targets) (p .channel c .samples) }
+  advance eventStart p = record { targets = p .targets; cursor = p .cursor; channel = λ c. started (p .targets) (p .channel c .samples) (p .channel c .count) }
   advance (eventFrame f) p = record {
     targets = p .targets;
     cursor = cursorAfter E (p .cursor) 1;
@@ -113,7 +116,14 @@ module _ (E : Engine) where
     samplesOf v c [] = []
     samplesOf v c (refusedCall k ∷ l) = samplesOf v c l
     samplesOf v c (kept cur ∷ l) = samplesOf v c l
-    samplesOf v c (rendered cur f a ∷ l) = samplesOf v c l ++ tab (λ k. a ‼ audioIndex E n k c v) f
+    samplesOf v c (rendered cur f a counts ∷ l) = samplesOf v c l ++ tab (λ k. a ‼ audioIndex E n k c v) f
+
+    -- voice v's counts on channel c, added up over all accepted blocks (C-11)
+    abbrev pub countOf : (v c : ℕ) → List Answer → ℕ
+    countOf v c [] = 0
+    countOf v c (refusedCall k ∷ l) = countOf v c l
+    countOf v c (kept cur ∷ l) = countOf v c l
+    countOf v c (rendered cur f a counts ∷ l) = countOf v c l + getD counts (slot E n c v) 0
 
     -- after the run r, voice v is the plain voice of the feed es
     pub record Same (v : ℕ) (r : Run) (es : List (Event S)) : Type 0 where
@@ -122,6 +132,7 @@ module _ (E : Engine) where
       pub rec : (c : ℕ) → c < channels → piece recordWidth (slot E n c v) (r .bank .records) ≡ voiceOf es .channel c .rec
       pub ring : (c : ℕ) → c < channels → piece ringLength (slot E n c v) (r .bank .delay) ≡ voiceOf es .channel c .ring
       pub samples : (c : ℕ) → c < channels → samplesOf v c (r .log) ≡ voiceOf es .channel c .samples
+      pub count : (c : ℕ) → c < channels → countOf v c (r .log) ≡ voiceOf es .channel c .count
       pub frames : framesRendered (r .log) ≡ frameCount es
 
   -- voice v after the run r of a bank of n voices, and voice u after the run q of a bank of m, agree in all that is compared
@@ -131,4 +142,5 @@ module _ (E : Engine) where
     pub rec : (c : ℕ) → c < channels → piece recordWidth (slot E n c v) (r .bank .records) ≡ piece recordWidth (slot E m c u) (q .bank .records)
     pub ring : (c : ℕ) → c < channels → piece ringLength (slot E n c v) (r .bank .delay) ≡ piece ringLength (slot E m c u) (q .bank .delay)
     pub samples : (c : ℕ) → c < channels → samplesOf n v c (r .log) ≡ samplesOf m u c (q .log)
+    pub count : (c : ℕ) → c < channels → countOf n v c (r .log) ≡ countOf m u c (q .log)
     pub frames : framesRendered (r .log) ≡ framesRendered (q .log)

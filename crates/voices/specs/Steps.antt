@@ -19,7 +19,7 @@ use Rattle.voices.specs.Calls.{targetsWidth, recordWidth, Check, fine, r
 use Rattle.voices.specs.Calls.{Run, cursorAfter, startRecord, slot, setOf, startOf, openOf, blockOf, openVerdict, verdict, accepted, perform}
 use Rattle.voices.specs.Calls.{call, run}
 use Rattle.voices.specs.Feed.{eventSet, eventStart, frameCount, framesRendered, PlainVoice, started, fresh, advance, play, frameAt, events}
-use Rattle.voices.specs.Feed.{feed, samplesOf}
+use Rattle.voices.specs.Feed.{feed, samplesOf, countOf}
 use Rattle.voices.specs.Accepted.{Lengths, SetAccepted, StartAccepted, BlockAccepted, open-accepted, set-accepted, start-accepted, block-accepted}
 use Rattle.voices.specs.Slots.{startOf-keeps, startOf-lengths, startOf-other, startOf-own}
 use Rattle.voices.specs.Plain.{cursor-add, cursor-zero, play-append, play-frames, count-append, count-frames, frames-targets, frames-cursor}
@@ -129,6 +129,7 @@ module _ (E : Engine) (laws : Laws E) (n : ℕ) where
   pub record Invariant (v : ℕ) (r : Run) (p : PlainVoice) : Type 0 where
     pub voice : VoiceIs v (r .bank) p
     pub samples : (c : ℕ) → c < channels → samplesOf E n v c (r .log) ≡ p .channel c .samples
+    pub count : (c : ℕ) → c < channels → countOf E n v c (r .log) ≡ p .channel c .count
 
   module _ (v : ℕ) (hv : v < n) where
     abbrev Step : Call S → Run → PlainVoice → Type 0
@@ -145,8 +146,13 @@ module _ (E : Engine) (laws : Laws E) (n : ℕ) where
           voice = subst (λ (x : ℕ). VoiceIs v (setOf E n x s (r .bank)) (advance E (eventSet s) p)) (sym (eqb-true u v q))
               (set-own v s (r .bank) p hv (a .targets) (i .voice));
           samples = unfold advance in i .samples;
+          count = unfold advance in i .count;
         }
-        go false q = record { voice = set-other u v s (r .bank) p (a .voice) (λ z. eqb-false u v q (sym z)) (a .targets) (i .voice); samples = i .samples }
+        go false q = record {
+          voice = set-other u v s (r .bank) p (a .voice) (λ z. eqb-false u v q (sym z)) (a .targets) (i .voice);
+          samples = i .samples;
+          count = i .count;
+        }
 
     step-start : (u : ℕ) (r : Run) (p : PlainVoice) → verdict E n (callStart u) (r .bank) ≡ fine → Invariant v r p → Step (callStart u) r p
     step-start u r p e i = go (eqb u v) refl
@@ -159,8 +165,13 @@ module _ (E : Engine) (laws : Laws E) (n : ℕ) where
           voice = subst (λ (x : ℕ). VoiceIs v (startOf E n x (r .bank)) (advance E eventStart p)) (sym (eqb-true u v q))
               (start-own v (r .bank) p hv (a .lengths) (i .voice));
           samples = unfold advance started in i .samples;
+          count = unfold advance started in i .count;
         }
-        go false q = record { voice = start-other u v (r .bank) p (a .voice) hv (λ z. eqb-false u v q (sym z)) (a .lengths) (i .voice); samples = i .samples }
+        go false q = record {
+          voice = start-other u v (r .bank) p (a .voice) hv (λ z. eqb-false u v q (sym z)) (a .lengths) (i .voice);
+          samples = i .samples;
+          count = i .count;
+        }
 
     step-block : (q : Block) (r : Run) (p : PlainVoice) → verdict E n (callBlock q) (r .bank) ≡ fine → Invariant v r p → Step (callBlock q) r p
     step-block q r p e i =
@@ -171,10 +182,11 @@ module _ (E : Engine) (laws : Laws E) (n : ℕ) where
             cursor = ap (λ (x : ℕ). cursorAfter E x (q .frames)) (h .cursor)
                 ∙ sym (frames-cursor E (frameAt E n q v) (q .frames) p (subst (λ (x : ℕ). cursorAfter E x 0 ≡ x) (h .cursor) (h .wrapped)));
             wrapped = cursor-add E (r .bank .cursor) (q .frames) 0 ∙ ap (cursorAfter E (r .bank .cursor)) (add-zero (q .frames));
-            rec = λ c hc. d c hc .1 .rec;
-            ring = λ c hc. d c hc .1 .ring;
+            rec = λ c hc. d c hc .2 .rec;
+            ring = λ c hc. d c hc .2 .ring;
           };
-          samples = λ c hc. ap₂ _++_ (i .samples c hc) (d c hc .1 .audio) ∙ d c hc .2;
+          samples = λ c hc. ap₂ _++_ (i .samples c hc) (d c hc .2 .audio) ∙ d c hc .3;
+          count = λ c hc. ap₂ _+_ (i .count c hc) (d c hc .2 .count) ∙ d c hc .4;
         })
       where
         h : VoiceIs v (r .bank) p
@@ -184,13 +196,13 @@ module _ (E : Engine) (laws : Laws E) (n : ℕ) where
         a = block-accepted E n q (r .bank) e
 
         d : (c : ℕ) (hc : c < channels)
-            → After E laws n q (piece targetsWidth v (r .bank .targets)) (targetsAt-length E laws n q (r .bank) (a .lengths) (a .audio) v hv v hv)
+            → After E laws n q (piece targetsWidth v (r .bank .targets)) (targetsAt-length E laws n q (r .bank) a v hv v hv)
             (r .bank .cursor) c v hc hv p (h .targets) (h .cursor) (h .wrapped) (blockOf E n q (r .bank))
-        d c hc = block-slot E laws n q (r .bank) (a .lengths) (a .audio) v hv p (h .targets) (h .cursor) (h .wrapped) c hc (h .rec c hc) (h .ring c hc)
+        d c hc = block-slot E laws n q (r .bank) a v hv p (h .targets) (h .cursor) (h .wrapped) c hc (h .rec c hc) (h .ring c hc)
 
     step : (x : Call S) (r : Run) (p : PlainVoice) (k : Check) → verdict E n x (r .bank) ≡ k
         → Invariant v r p → Invariant v (perform E n k x r) (play E (events E n k v x) p)
-    step x r p (refused k) e i = record { voice = i .voice; samples = i .samples }
+    step x r p (refused k) e i = record { voice = i .voice; samples = i .samples; count = i .count }
     step (callSet u s) r p fine e i = step-set u s r p e i
     step (callStart u) r p fine e i = step-start u r p e i
     step (callBlock q) r p fine e i = step-block q r p e i

@@ -26,13 +26,14 @@ TwoBanks E n m =
 pub theorem : (E : Engine) → Laws E → (n : ℕ) → VoiceFromFeed E n
 unfolding fresh started
 theorem E laws n v b xs ok h =
-    let i = steps E laws n v h xs (opened E n b) (fresh E) (record { voice = open-own E laws n v b ok h; samples = λ c hc. refl }) in
+    let i = steps E laws n v h xs (opened E n b) (fresh E) (record { voice = open-own E laws n v b ok h; samples = λ c hc. refl; count = λ c hc. refl }) in
     record {
       targets = i .voice .targets;
       cursor = i .voice .cursor;
       rec = i .voice .rec;
       ring = i .voice .ring;
       samples = i .samples;
+      count = i .count;
       frames = count-steps E laws n xs v (opened E n b) ∙ omega arith;
     }
 
@@ -47,5 +48,6 @@ corollary E laws n m v u b d xs ys okb okd hv hu e =
       rec = λ c h. s .rec c h ∙ ap (λ (p : PlainVoice). p .channel c .rec) j ∙ sym (t .rec c h);
       ring = λ c h. s .ring c h ∙ ap (λ (p : PlainVoice). p .channel c .ring) j ∙ sym (t .ring c h);
       samples = λ c h. s .samples c h ∙ ap (λ (p : PlainVoice). p .channel c .samples) j ∙ sym (t .samples c h);
+      count = λ c h. s .count c h ∙ ap (λ (p : PlainVoice). p .channel c .count) j ∙ sym (t .count c h);
       frames = s .frames ∙ ap (λ (f : List (Event (E .S))). frameCount f) e ∙ sym (t .frames);
     }

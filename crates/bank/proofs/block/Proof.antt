@@ -17,23 +17,23 @@ use Rattle.bank.specs.Bank.{answerOf, cursorOf}
 use Rattle.bank.proofs.block.Statement.{statement}
 use Rattle.bank.proofs.block.Tie as tie
 
-accepted : (c : tie.After-enum-told) → let a = c .before .before .before .before .before .before .before .before .before .before .before .before .before .args in
-    verdict (engine (a .setup)) (a .setup .voices) (callBlock (blockFrom (a .frames) (now (a .pitch)) (a .steered) (now (a .x)) (now (a .y)) (now (a .audio)))) (bankOf (now (a .targets)) (now (a .records)) (now (a .delay)) 0) ≡ fine
+accepted : (c : tie.After-enum-told) → let a = c .before .before .before .before .before .before .before .before .before .before .before .before .before .before .before .args in
+    verdict (engine (a .setup)) (a .setup .voices) (callBlock (blockFrom (a .frames) (now (a .pitch)) (a .steered) (now (a .x)) (now (a .y)) (now (a .audio)) (now (a .counts)))) (bankOf (now (a .targets)) (now (a .records)) (now (a .delay)) 0) ≡ fine
 accepted c = fine-by (c .before .before .block-check .ensures) (c .enum-told .given .1)
 
-known : (c : tie.After-enum-told) → let a = c .before .before .before .before .before .before .before .before .before .before .before .before .before .args in
-    BlockAccepted (engine (a .setup)) (a .setup .voices) (blockFrom (a .frames) (now (a .pitch)) (a .steered) (now (a .x)) (now (a .y)) (now (a .audio))) (bankOf (now (a .targets)) (now (a .records)) (now (a .delay)) 0)
+known : (c : tie.After-enum-told) → let a = c .before .before .before .before .before .before .before .before .before .before .before .before .before .before .before .args in
+    BlockAccepted (engine (a .setup)) (a .setup .voices) (blockFrom (a .frames) (now (a .pitch)) (a .steered) (now (a .x)) (now (a .y)) (now (a .audio)) (now (a .counts))) (bankOf (now (a .targets)) (now (a .records)) (now (a .delay)) 0)
 known c = block-accepted _ _ _ _ (accepted c)
 
-numbers : (c : tie.After-enum-told) → SetupAccepted (soloOf (c .before .before .before .before .before .before .before .before .before .before .before .before .before .args .setup)) (c .before .before .before .before .before .before .before .before .before .before .before .before .before .args .setup .voices)
+numbers : (c : tie.After-enum-told) → SetupAccepted (soloOf (c .before .before .before .before .before .before .before .before .before .before .before .before .before .before .before .args .setup)) (c .before .before .before .before .before .before .before .before .before .before .before .before .before .before .before .args .setup .voices)
 numbers c = setup-accepted _ _ (known c .setup)
 
 run-block-requires : tie.Need-run-block-requires
 run-block-requires c κs =
-    let a = c .before .before .before .before .before .before .before .before .before .before .before .before .before .before .before .before .before .before .before .before .before .before .before .before .args in
-    let k = known (c .before .before .before .before .before .before .before .before .before .before .before) in
-    let s = numbers (c .before .before .before .before .before .before .before .before .before .before .before) in
-    let len = c .before .before .before .before .before .ring-len in
+    let a = c .before .before .before .before .before .before .before .before .before .before .before .before .before .before .before .before .before .before .before .before .before .before .before .before .before .before .before .args in
+    let k = known (c .before .before .before .before .before .before .before .before .before .before .before .before) in
+    let s = numbers (c .before .before .before .before .before .before .before .before .before .before .before .before) in
+    let len = c .before .before .before .before .before .before .ring-len in
     let wide : ℕ = a .frames * a .setup .voices in (
       record {
         voices = s .voices;
@@ -42,9 +42,9 @@ run-block-requires c κs =
         slots = refl;
         len = len .ensures;
         good = ap isLength (len .ensures) ∙ s .good;
-        constants = c .before .before .before .before .before .before .before .constants-of .ensures;
+        constants = c .before .before .before .before .before .before .before .before .constants-of .ensures;
       },
-      record { targets = k .lengths .targets; records = k .lengths .records },
+      record { targets = k .lengths .targets; records = k .lengths .records; counts = k .counts },
       record {
         pitch = k .pitch;
         x = λ e. k .x ∙ ap (λ (b : Bool). cond b wide 0) e;
@@ -56,19 +56,19 @@ run-block-requires c κs =
 
 returns : tie.Need-returns
 unfolding answerOf cursorOf
-returns c = record { does = rw (refused-by (c .before .before .before .block-check .ensures) (c .before .checked .given .1)); keeps = λ k e. refl }
+returns c = record { does = rw (refused-by (c .before .before .before .block-check .ensures) (c .before .checked .given .1)); keeps = λ k e. (refl, refl) }
 
 -- the lists and the cursor that the two calls left are the definitions'
 returns-2 : tie.Need-returns-2
 unfolding answerOf cursorOf cursorAfter
 returns-2 c =
-    let a = c .before .before .before .before .before .before .before .before .before .before .before .before .before .before .before .before .before .before .before .before .before .before .before .before .before .before .before .before .before .before .before .before .args in
-    let q = blockFrom (a .frames) (now (a .pitch)) (a .steered) (now (a .x)) (now (a .y)) (now (a .audio)) in
+    let a = c .before .before .before .before .before .before .before .before .before .before .before .before .before .before .before .before .before .before .before .before .before .before .before .before .before .before .before .before .before .before .before .before .before .before .before .before .before .args in
+    let q = blockFrom (a .frames) (now (a .pitch)) (a .steered) (now (a .x)) (now (a .y)) (now (a .audio)) (now (a .counts)) in
     let b = bankOf (now (a .targets)) (now (a .records)) (now (a .delay)) (a .cursor) in
-    let w : _≡_ {A = BlockRun} _ (blockOf (engine (a .setup)) (a .setup .voices) q b) = c .before .before .before .before .before .before .before .run-block .ensures in
+    let w : _≡_ {A = BlockRun} _ (blockOf (engine (a .setup)) (a .setup .voices) q b) = c .before .before .before .before .before .before .before .before .before .run-block .ensures in
     let cur : _≡_ {A = ℕ} _ (cursorAfter (engine (a .setup)) (a .cursor) (a .frames)) = c .cursor-after .ensures in
     record {
-      does = rw (accepted (c .before .before .before .before .before .before .before .before .before .before .before .before .before .before .before .before .before .before .before)) (λ i. record { bank = bankOf (now (a .targets)) (w i .records) (w i .delay) (cur i); log = rendered (cur i) (a .frames) (w i .audio) ∷ [] });
+      does = rw (accepted (c .before .before .before .before .before .before .before .before .before .before .before .before .before .before .before .before .before .before .before .before .before .before)) (λ i. record { bank = bankOf (now (a .targets)) (w i .records) (w i .delay) (cur i); log = rendered (cur i) (a .frames) (w i .audio) (w i .counts) ∷ [] });
       keeps = λ k e. let z : _≡_ {A = ℕ} 0 1 = cc in absurd (omega arith);
     }
 
@@ -81,6 +81,7 @@ block-spec =
     (λ c. search needs)
     (λ c. search needs)
     (λ c. search needs)
+    (λ c. search needs)
     returns
     (λ c. search needs)
     (λ c κs. tt)
@@ -89,6 +90,7 @@ block-spec =
     (λ c κs. tt)
     run-block-requires
     (λ c κs. tt)
+    (λ c. search needs)
     (λ c. search needs)
     (λ c. search needs)
     (λ c. search needs)

@@ -2,12 +2,13 @@
 -- The products are small, as setup and frames were accepted.
 use mathlib.Core.Path.{_≡_, sym, _∙_}
 use mathlib.Core.Bool.{true}
-use Prim.Native.Nat.{_≤_}
+use Prim.Native.Nat.{_*_, _≤_}
 use native.Mathlib.Omega.{arith}
 use native.Mathlib.Nat.{mul-le-mul}
 use borrow.Author.Tests.{eq-eqb, ne-eqb, leb-true}
 use borrow.Author.Needs.{needs}
-use lib.Dec.{leb}
+use lib.Dec.{leb, eqb}
+use lib.ListN.{length}
 use denote.Ref.{now}
 use Rattle.slots.specs.Engine.{within}
 use Rattle.voices.specs.Calls.{fine, check, openVerdict}
@@ -19,19 +20,22 @@ use Rattle.checks.proofs.Laws.{passes, fails, after-two-refused, third-
 use Rattle.checks.proofs.block_check.Statement.{statement}
 use Rattle.checks.proofs.block_check.Tie as tie
 
-opened : (c : tie.After-enum-told) → let a = c .before .before .before .before .before .before .before .before .before .before .args in openVerdict (engine (a .setup)) (a .setup .voices) (bankOf (now (a .targets)) (now (a .records)) (now (a .delay)) 0) ≡ fine
+opened : (c : tie.After-enum-told) → let a = c .before .before .before .before .before .before .before .before .before .before .before .args in openVerdict (engine (a .setup)) (a .setup .voices) (bankOf (now (a .targets)) (now (a .records)) (now (a .delay)) 0) ≡ fine
 opened c = fine-by (c .before .before .open-check .ensures) (c .enum-told .given .1)
 
-known : (c : tie.After-enum-told) → SetupAccepted (soloOf (c .before .before .before .before .before .before .before .before .before .before .args .setup)) (c .before .before .before .before .before .before .before .before .before .before .args .setup .voices)
+known : (c : tie.After-enum-told) → SetupAccepted (soloOf (c .before .before .before .before .before .before .before .before .before .before .before .args .setup)) (c .before .before .before .before .before .before .before .before .before .before .before .args .setup .voices)
 known c = setup-accepted _ _ (then-fine _ _ (opened c) .0)
 
-framed : (c : tie.Else1) → within 1 4096 (c .before .before .before .before .before .before .before .before .before .before .before .before .args .frames) ≡ true
+framed : (c : tie.Else1) → within 1 4096 (c .before .before .before .before .before .before .before .before .before .before .before .before .before .args .frames) ≡ true
 framed c = passes (c .if1 .left) (c .before .is-within .ensures)
 
-most : (c : tie.Else1) → c .before .before .before .before .before .before .before .before .before .before .before .before .args .frames ≤ 4096
+most : (c : tie.Else1) → c .before .before .before .before .before .before .before .before .before .before .before .before .before .args .frames ≤ 4096
 most c =
-    let f = c .before .before .before .before .before .before .before .before .before .before .before .before .args .frames in
+    let f = c .before .before .before .before .before .before .before .before .before .before .before .before .before .args .frames in
     leb-true f 4096 (and-true (leb 1 f) (leb f 4096) (framed c) .1)
+
+counted : (c : tie.Else6) → let a = c .before .before .before .before .before .before .before .before .before .before .before .before .before .before .before .before .before .before .before .before .before .args in eqb (length (now (a .counts))) (a .setup .channels * a .setup .voices) ≡ true
+counted c = eq-eqb _ _ (c .if6 .left)
 
 pub block-check-spec : {M : Type 1} → statement M
 unfolding checkOf check
@@ -52,4 +56,5 @@ block-check-spec =
     (λ c. omega (arith, known (c .before .before .before .before .before .before .before .before) .slots))
     (λ c. omega (arith, mul-le-mul (most (c .before .before .before .before .before .before)) (known (c .before .before .before .before .before .before .before .before) .slots)))
     (λ c. sym (after-three-fine _ _ _ _ (opened (c .before .before .before .before .before .before .before .before .before)) (rw (framed (c .before .before .before .before .before .before .before))) ∙ rw (eq-eqb _ _ (c .before .before .before .before .if2 .left), ← c .before .before .before .before .before .steering-length .ensures, eq-eqb _ _ (c .before .before .before .if3 .left), eq-eqb _ _ (c .before .before .if4 .left), ne-eqb _ _ (c .if5 .taken))))
-    (λ c. sym (after-three-fine _ _ _ _ (opened (c .before .before .before .before .before .before .before .before .before)) (rw (framed (c .before .before .before .before .before .before .before))) ∙ rw (eq-eqb _ _ (c .before .before .before .before .if2 .left), ← c .before .before .before .before .before .steering-length .ensures, eq-eqb _ _ (c .before .before .before .if3 .left), eq-eqb _ _ (c .before .before .if4 .left), eq-eqb _ _ (c .if5 .left)))))
+    (λ c. sym (after-three-fine _ _ _ _ (opened (c .before .before .before .before .before .before .before .before .before .before)) (rw (framed (c .before .before .before .before .before .before .before .before))) ∙ rw (eq-eqb _ _ (c .before .before .before .before .before .if2 .left), ← c .before .before .before .before .before .before .steering-length .ensures, eq-eqb _ _ (c .before .before .before .before .if3 .left), eq-eqb _ _ (c .before .before .before .if4 .left), eq-eqb _ _ (c .before .if5 .left), ne-eqb _ _ (c .if6 .taken))))
+    (λ c. sym (after-three-fine _ _ _ _ (opened (c .before .before .before .before .before .before .before .before .before .before)) (rw (framed (c .before .before .before .before .before .before .before .before))) ∙ rw (eq-eqb _ _ (c .before .before .before .before .before .if2 .left), ← c .before .before .before .before .before .before .steering-length .ensures, eq-eqb _ _ (c .before .before .before .before .if3 .left), eq-eqb _ _ (c .before .before .before .if4 .left), eq-eqb _ _ (c .before .if5 .left), counted c))))

@@ -6,4 +6,4 @@ use Rattle.combs.proofs.comb_coefficients.Tie as tie
 
 pub comb-coefficients-spec : {M : Type 1} → statement M
 unfolding combCoefficients ofBits round
-comb-coefficients-spec = tie.close (tie.spec (λ c κs. tt) (λ c κs. tt) (λ c κs. tt) (λ c. cc))
+comb-coefficients-spec = tie.close (tie.spec (λ c κs. tt) (λ c κs. tt) (λ c pitch e. rw (c .comb-with .ensures, c .before .exp2 .ensures, e)))

@@ -6,4 +6,4 @@ use Rattle.expanders.proofs.expander_coefficients.Tie as tie
 
 pub expander-coefficients-spec : {M : Type 1} → statement M
 unfolding expanderCoefficients ofBits round
-expander-coefficients-spec = tie.close (tie.spec (λ c κs. tt) (λ c κs. tt) (λ c. rw (c .expander-with .ensures, c .before .gain .ensures)))
+expander-coefficients-spec = tie.close (tie.spec (λ c κs. tt) (λ c pitch e. rw (c .expander-with .ensures, e)))

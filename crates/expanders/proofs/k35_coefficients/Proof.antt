@@ -6,4 +6,4 @@ use Rattle.expanders.proofs.k35_coefficients.Tie as tie
 
 pub k35-coefficients-spec : {M : Type 1} → statement M
 unfolding k35Coefficients ofBits round
-k35-coefficients-spec = tie.close (tie.spec (λ c κs. tt) (λ c κs. tt) (λ c κs. tt) (λ c. rw (c .k35-with .ensures, c .before .unit .ensures, c .before .before .before .gain .ensures)))
+k35-coefficients-spec = tie.close (tie.spec (λ c κs. tt) (λ c κs. tt) (λ c pitch e. rw (c .k35-with .ensures, c .before .unit .ensures, e)))

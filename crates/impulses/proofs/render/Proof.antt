@@ -47,6 +47,9 @@ part-block-start-2 c = search needs
 part-block-end-2 : tie.Need-part-block-end-2
 part-block-end-2 c = search needs
 
+slice-aggregate-block-3 : tie.Need-slice-aggregate-block-3
+slice-aggregate-block-3 c = search needs
+
 block-requires : tie.Need-block-requires
 block-requires c κs = search needs
 
@@ -58,10 +61,10 @@ same-length-2 c = search needs
 
 returns : tie.Need-returns
 returns c =
-    let b = c .before .before .before .before .before in
-    let o = b .before .before .before .before .before .before .before .before .before .before .before in
+    let b = c .before .before .before .before .before .before in
+    let o = b .before .before .before .before .before .before .before .before .before .before .before .before in
     let a = o .before .before .before .before .before .before .before .before .before .before .pre in
-    rendered-is _ _ _ _ _ (accepted _ _ _ (a .accepted)) (a .ring) (a .pitches) _ _ _ _ _ _ _ _ _ (b .before .before .before .before .before .before .before .before .before .before .targets2 .given) (b .before .before .before .before .before .before .before .before .before .records2 .given) (b .before .before .before .before .before .before .before .before .delay .given) (rw (o .before .before .before .before .before .before .setup-of .ensures, o .before .before .before .before .before .silent-targets .ensures .0, o .before .before .before .before .silent-record .ensures .0) at (o .open .ensures)) (rw (o .before .before .before .before .before .before .setup-of .ensures) at (b .block .ensures))
+    rendered-is _ _ _ _ _ (accepted _ _ _ (a .accepted)) (a .ring) (a .pitches) _ _ _ _ _ _ _ _ _ _ (b .before .before .before .before .before .before .before .before .before .before .before .targets2 .given) (b .before .before .before .before .before .before .before .before .before .before .records2 .given) (b .before .before .before .before .before .before .before .before .before .delay .given) (rw (o .before .before .before .before .before .before .setup-of .ensures, o .before .before .before .before .before .silent-targets .ensures .0, o .before .before .before .before .silent-record .ensures .0) at (o .open .ensures)) (rw (o .before .before .before .before .before .before .setup-of .ensures) at (b .block .ensures))
 
 pub render-spec : {M : Type 1} → statement M
 render-spec =
@@ -81,6 +84,7 @@ render-spec =
     sub-block-2
     part-block-start-2
     part-block-end-2
+    slice-aggregate-block-3
     block-requires
     same-length
     same-length-2

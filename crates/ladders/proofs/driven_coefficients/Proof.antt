@@ -6,4 +6,4 @@ use Rattle.ladders.proofs.driven_coefficients.Tie as tie
 
 pub driven-coefficients-spec : {M : Type 1} → statement M
 unfolding drivenCoefficients ofBits round
-driven-coefficients-spec = tie.close (tie.spec (λ c κs. tt) (λ c κs. tt) (λ c κs. tt) (λ c κs. tt) (λ c. rw (c .driven-with .ensures, c .before .soft-clip .ensures, c .before .before .gain .ensures, c .before .before .before .exp2 .ensures)))
+driven-coefficients-spec = tie.close (tie.spec (λ c κs. tt) (λ c κs. tt) (λ c κs. tt) (λ c pitch e. rw (c .driven-with .ensures, c .before .soft-clip .ensures, c .before .before .exp2 .ensures, e)))

@@ -15,7 +15,7 @@ returns : tie.Need-returns
 unfolding offsetOf
 returns c =
     let kernel = c .before .before .before .before .kernel-tick .ensures in
-    let steer2 = c .before .before .before .before .before .before .before .before .before .before in
+    let steer2 = c .before .before .before .before .before .before .before .before .before .before .before in
     let steer1 = steer2 .before .before in
     let smooth = steer1 .before .before .before .before .before in
     let start = smooth .before .before .before .before .before in
@@ -24,9 +24,9 @@ returns c =
       frame (a .m) (now (a .sections)) (a .at) (a .f) (now (a .targets)) (now (a .params)) (now (a .state)) (now (a .delay)) next
           (record { pitch = fma (next ‼ OFFSET) (a .f .sign) (a .f .pitch .0); x = steer1 .steer .result; y = steer2 .steer2 .result })
           _ _ _ _
-          (start .pre .0) (smooth .smooth .ensures) refl (steer1 .steer .ensures) (steer2 .steer2 .ensures) (kernel .0) (c .mix .ensures),
+          (start .pre .0) (smooth .smooth .ensures) refl (steer1 .steer .ensures) (steer2 .steer2 .ensures) (kernel .0) (kernel .1) (c .mix .ensures) refl,
       ap length (smooth .smooth .ensures) ∙ smooth-length (a .m .k .alpha) (now (a .targets)) (now (a .params)),
-      kernel .1,
+      kernel .2,
     )
 
 pub tick-spec : {M : Type 1} → statement M
@@ -34,5 +34,5 @@ tick-spec =
     tie.close
     (tie.spec
     (λ c κs. tt) (λ c. search needs) (λ c. search needs) (λ c κs. tt) (λ c. search needs) (λ c κs. tt)
-    (λ c κs. let s = c .before .before .before .before .before .before .before .before .before .before .before .before .before .before .before .before .before in (s .pre .1, s .pre .2))
+    (λ c κs. let s = c .before .before .before .before .before .before .before .before .before .before .before .before .before .before .before .before .before .before in (s .pre .1, s .pre .2))
     (λ c κs. tt) (λ c. search needs) returns)

@@ -9,30 +9,31 @@ use Rattle.slots.proofs.run_block.Statement.{statement}
 use Rattle.slots.proofs.run_block.Tie as tie
 
 abbrev Inv-loop : tie.InvT-loop
-Inv-loop e sections roots targets records₀ delay₀ pitch x y audio₀ channels c₀ records delay audio c =
-    Swept (channelIn e sections targets pitch x y) (e .channels) (blockRun records₀ delay₀ audio₀) c (blockRun records delay audio)
+Inv-loop e sections roots targets records₀ delay₀ pitch x y audio₀ counts₀ channels c₀ records delay audio counts c =
+    Swept (channelIn e sections targets pitch x y) (e .channels) (blockRun records₀ delay₀ audio₀ counts₀) c (blockRun records delay audio counts)
 
 abbrev μ-loop : tie.MeasureT-loop
-μ-loop e sections roots targets records₀ delay₀ pitch x y audio₀ channels c₀ records delay audio c = e .channels - c
+μ-loop e sections roots targets records₀ delay₀ pitch x y audio₀ counts₀ channels c₀ records delay audio counts c = e .channels - c
 
 run-channel-requires : tie.Need-run-channel-requires Inv-loop μ-loop
 run-channel-requires c κs =
-    let s = c .before .before .before .before .before .before .before .before .before .before .before .before in
-    let l = c .before .before .before .before .loop in
-    (s .pre .0, swept-lists _ _ _ _ _ (l .inv) (s .pre .1), swept-buffers _ _ _ _ _ (l .inv) (s .pre .2), c .before .before .before .loop-test .taken)
+    let s = c .before .before .before .before .before .before .before .before .before .before .before .before .before .before in
+    let l = c .before .before .before .before .before .loop in
+    (s .pre .0, swept-lists _ _ _ _ _ (l .inv) (s .pre .1), swept-buffers _ _ _ _ _ (l .inv) (s .pre .2), c .before .before .before .before .loop-test .taken)
 
 loop-again : tie.Need-loop-again Inv-loop μ-loop
 loop-again c =
-    let l = c .before .before .before .before .before .before .before .before .before .before .before .loop in
-    swept-again _ _ _ (l .c) (blockRun (l .records) (l .delay) (l .audio)) _ (l .inv) (c .before .before .before .before .before .before .before .before .before .before .loop-test .taken)
-    (c .before .before .before .before .before .before .run-channel .ensures)
-    (omega arith) (omega arith) (omega arith)
+    let l = c .before .before .before .before .before .before .before .before .before .before .before .before .before .before .loop in
+    swept-again _ _ _ (l .c) (blockRun (l .records) (l .delay) (l .audio) (l .counts)) _ (l .inv) (c .before .before .before .before .before .before .before .before .before .before .before .before .before .loop-test .taken)
+    (c .before .before .before .before .before .before .before .before .run-channel .ensures)
+    (omega arith) (omega arith) (omega arith) (omega arith)
 
 returns : tie.Need-returns Inv-loop μ-loop
 returns c =
-    let a = c .before .before .before .before .before .before .before .before .before .args in
+    let a = c .before .before .before .before .before .before .before .before .before .before .args in
     swept-end _ _ _ _ _ (c .before .loop .inv) (c .loop-test .left)
     ∙ block-is (a .e) (now (a .sections)) (now (a .targets)) (now (a .pitch)) (now (a .x)) (now (a .y)) (now (a .records)) (now (a .delay)) (now (a .audio))
+    (now (a .counts))
 
 pub run-block-spec : {M : Type 1} → statement M
 run-block-spec =
@@ -42,10 +43,11 @@ run-block-spec =
     μ-loop
     (λ c. swept-start _ _ _)
     run-channel-requires
-    (λ c. omega (arith, c .before .before .before .before .before .before .before .before .before .before .loop-test .taken, c .before .before .before .before .before .before .before .before .before .before .before .before .before .before .before .before .before .before .before .pre .0 .channels))
-    (λ c. omega (arith, c .before .before .before .before .before .before .before .before .before .before .loop-test .taken))
+    (λ c. omega (arith, c .before .before .before .before .before .before .before .before .before .before .before .before .before .loop-test .taken, c .before .before .before .before .before .before .before .before .before .before .before .before .before .before .before .before .before .before .before .before .before .before .before .pre .0 .channels))
+    (λ c. omega (arith, c .before .before .before .before .before .before .before .before .before .before .before .before .before .loop-test .taken))
     loop-again
     (λ c. c .before .loop .inv .records)
     (λ c. c .before .loop .inv .delay)
     (λ c. c .before .loop .inv .audio)
+    (λ c. c .before .loop .inv .counts)
     returns)

@@ -1,12 +1,12 @@
--- `run_slot` meets its contract: two loads are the slot's record, the frames are `run_frames`, and the record is stored.
-use mathlib.Core.Path.{sym, ap, _∙_}
+-- `run_slot` meets its contract: two loads are the slot's record, the frames are `run_frames`, and the record and the count are stored.
+use mathlib.Core.Path.{refl, sym, ap, _∙_}
 use mathlib.Core.Bool.{true≢false}
 use mathlib.Core.List.{List, _++_}
 use Prim.Native.Nat.{ℕ, _+_}
 use native.Mathlib.Omega.{arith}
 use denote.Ref.{now}
 use lib.Ieee.{Float, binary32, ofBits, div, isNan}
-use lib.ListN.{length, take, drop, length-drop, replicate}
+use lib.ListN.{length, take, drop, length-drop, length-set, replicate}
 use lib.Seq.{length-take-le}
 use Rattle.parts.specs.Parts.{piece}
 use Rattle.kernels.specs.Contracts.{Kept, KeptSections}
@@ -23,35 +23,35 @@ use Rattle.slots.proofs.run_slot.Tie as tie
 abbrev unset : ℕ → List Float
 unset n = replicate n (div binary32 (ofBits binary32 0) (ofBits binary32 0))
 
-keeps-nothing : (m : Structure) (sections : List Float) → Keeps m sections (unset 10) (unset 43)
+keeps-nothing : (m : Structure) (sections : List Float) (over : ℕ) → Keeps m sections (unset 10) (unset 43) over
 unfolding Kept KeptSections isNan ofBits div
-keeps-nothing m sections = record { numbers = λ h. absurd (true≢false h); blends = λ h. absurd (true≢false h) }
+keeps-nothing m sections over = record { numbers = λ h. absurd (true≢false h); blends = λ h. absurd (true≢false h) }
 
 run-frames-requires : tie.Need-run-frames-requires
 run-frames-requires c κs =
-    let s = c .before .before .before .before .before .before .before .before .before .before .before .before .before .before .before .before .before .before .before .before .before in
-    let at = c .before .before .before .before .before .before .before .before .before .before .before .before .start-of2 in
+    let s = c .before .before .before .before .before .before .before .before .before .before .before .before .before .before .before .before .before .before .before .before .before .before .before in
+    let at = c .before .before .before .before .before .before .before .before .before .before .before .before .before .start-of2 in
     let rs : List Float = now (s .args .records) in (
       s .pre .0,
       s .pre .3,
       s .pre .2,
-      ap length (c .before .before .before .before .before .before .before .before .before .load-ten2 .ensures) ∙ length-take-le 10 (drop (at .result) rs) (simp length-drop (omega (arith, at .ensures .1))),
-      keeps-nothing (s .args .e .m) (now (s .args .sections)),
+      ap length (c .before .before .before .before .before .before .before .before .before .before .load-ten2 .ensures) ∙ length-take-le 10 (drop (at .result) rs) (simp length-drop (omega (arith, at .ensures .1))),
+      keeps-nothing (s .args .e .m) (now (s .args .sections)) 0,
     )
 
 returns : tie.Need-returns
 returns c =
-    let s = c .before .before .before .before .before .before .before .before .before .before .before .before .before .before .before .before .before .before .before .before .before .before .before .before .before .before .before .before .before .before .before .before in
+    let s = c .before .before .before .before .before .before .before .before .before .before .before .before .before .before .before .before .before .before .before .before .before .before .before .before .before .before .before .before .before .before .before .before .before .before in
     let a = s .args in
-    let from = c .before .before .before .before .before .before .before .before .before .before .before .before .before .before .before .before .before .before .before .before .before .before .before .before .start-of in
-    let at = c .before .before .before .before .before .before .before .before .before .before .before .before .before .before .before .before .before .before .before .before .before .before .before .start-of2 in
-    let goals = c .before .before .before .before .before .before .before .before .before .before .before .before .before .before .before .before .before .before .before .before .before .before .load-ten in
-    let params = c .before .before .before .before .before .before .before .before .before .before .before .before .before .before .before .before .before .before .before .before .load-ten2 in
-    let state = c .before .before .before .before .before .before .before .before .before .before .before .before .before .before .before .before .before .before .load-states in
+    let from = c .before .before .before .before .before .before .before .before .before .before .before .before .before .before .before .before .before .before .before .before .before .before .before .before .before .start-of in
+    let at = c .before .before .before .before .before .before .before .before .before .before .before .before .before .before .before .before .before .before .before .before .before .before .before .before .start-of2 in
+    let goals = c .before .before .before .before .before .before .before .before .before .before .before .before .before .before .before .before .before .before .before .before .before .before .before .load-ten in
+    let params = c .before .before .before .before .before .before .before .before .before .before .before .before .before .before .before .before .before .before .before .before .before .load-ten2 in
+    let state = c .before .before .before .before .before .before .before .before .before .before .before .before .before .before .before .before .before .before .before .load-states in
     let rs : List Float = now (a .records) in
     slot-is (engineAt (a .e) (now (a .sections))) (a .e .voices) (blockAt (a .e) (now (a .pitch)) (now (a .x)) (now (a .y)))
     (piece targetsWidth (a .p .voice) (now (a .targets))) (a .e .cursor) (a .p .channel) (a .p .voice)
-    (blockRun rs (now (a .delay)) (now (a .audio))) (a .p .number) (goals .result) (params .result ++ state .result) _ _
+    (blockRun rs (now (a .delay)) (now (a .audio)) (now (a .counts))) (a .p .number) (goals .result) (params .result ++ state .result) _ _ _
     (s .pre .3 .number)
     (targets-piece (a .p .voice) (from .result) (now (a .targets)) _ (from .ensures .0) (goals .ensures))
     ((λ i. params .ensures i ++ state .ensures i)
@@ -59,20 +59,24 @@ returns c =
     ∙ two-loads 10 20 (a .p .number) rs)
     (c .before .before .before .before .before .before .before .before .before .before .run-frames .ensures)
     (c .before .before .store-record .ensures)
+    refl
 
 pub run-slot-spec : {M : Type 1} → statement M
 run-slot-spec =
     tie.close
     (tie.spec
-    (λ c κs. let s = c .before .before .before .before .before .before .before in (s .pre .3 .voice, s .pre .1 .targets))
-    (λ c κs. let s = c .before .before .before .before .before .before .before .before in (s .pre .3 .below, s .pre .1 .records))
+    (λ c κs. let s = c .before .before .before .before .before .before .before .before in (s .pre .3 .voice, s .pre .1 .targets))
+    (λ c κs. let s = c .before .before .before .before .before .before .before .before .before in (s .pre .3 .below, s .pre .1 .records))
     (λ c κs. c .before .start-of .ensures .1)
     (λ c κs. omega (arith, c .before .before .start-of2 .ensures .1))
-    (λ c. omega (arith, c .before .before .before .before .start-of2 .ensures .1, c .before .before .before .before .before .before .before .before .before .before .before .before .before .good .1 .1 .1 .1 .0))
+    (λ c. omega (arith, c .before .before .before .before .start-of2 .ensures .1, c .before .before .before .before .before .before .before .before .before .before .before .before .before .before .good .1 .1 .1 .1 .0))
     (λ c κs. omega (arith, c .before .before .before .before .start-of2 .ensures .1))
     run-frames-requires
-    (λ c κs. omega (arith, c .before .before .before .before .before .before .before .before .before .before .before .before .before .before .before .before .before .before .before .before .start-of2 .ensures))
+    (λ c κs. omega (arith, c .before .before .before .before .before .before .before .before .before .before .before .before .before .before .before .before .before .before .before .before .before .start-of2 .ensures))
+    (λ c. let s = c .before .before .before .before .before .before .before .before .before .before .before .before .before .before .before .before .before .before .before .before .before .before .before .before .before .before .before .before .before .before .before .before .before .before in omega (arith, s .pre .3 .below, s .pre .1 .counts, s .good .1 .1 .1 .1 .1 .1 .1 .1 .1 .1 .0))
+    (λ c. let s = c .before .before .before .before .before .before .before .before .before .before .before .before .before .before .before .before .before .before .before .before .before .before .before .before .before .before .before .before .before .before .before .before .before .before in omega (arith, s .pre .3 .below, s .pre .1 .counts))
     (λ c. omega arith)
     (λ c. omega arith)
     (λ c. omega arith)
+    (λ c. simp length-set)
     returns)

@@ -1,9 +1,9 @@
--- `kernels::tuning::retune` meets its contract: the kept numbers are those of the same pitch and character, or they are worked out.
+-- `kernels::tuning::retune` meets its contract: what is kept is of the same pitch and character, or it is worked out.
 use mathlib.Core.Path.{_≡_, _∙_}
 use denote.Ref.{now}
 use lib.Ieee.{ofBits, round}
 use Rattle.filter.specs.declared.Pitch.{Pitch}
-use Rattle.kernels.specs.Tuning.{tuningOf, keyOf}
+use Rattle.kernels.specs.Tuning.{tuningOf, tunedOver, keyOf}
 use Rattle.kernels.specs.Contracts.{Kept}
 use Rattle.kernels.proofs.tuning.retune.Statement.{statement}
 use Rattle.kernels.proofs.tuning.retune.Tie as tie
@@ -14,11 +14,14 @@ returns c =
     let s = c .before .before .before in
     let a = s .args in
     let key = c .before .is-tuned .ensures (c .if1 .taken) in
-    s .pre (key .number) ∙ (λ i. tuningOf (a .code) (record { 0 = key .pitch-is i }) (keyOf (a .reference) (key .character-is i)))
+    let kept = s .pre (key .number) in (
+      kept .0 ∙ (λ i. tuningOf (a .code) (record { 0 = key .pitch-is i }) (keyOf (a .reference) (key .character-is i))),
+      kept .1 ∙ (λ i. tunedOver (a .code) (record { 0 = key .pitch-is i }) (keyOf (a .reference) (key .character-is i)) (now (a .over))),
+    )
 
 returns-2 : tie.Need-returns-2
 unfolding keyOf ofBits round
-returns-2 c = c .tuned .ensures
+returns-2 c = c .before .tuned .ensures
 
 pub retune-spec : {M : Type 1} → statement M
 retune-spec =

@@ -22,7 +22,7 @@ returns c =
     subst
     (λ (s : Setup). ListsLeft (openBy (openVerdict (engine s) (s .voices) b) s b) (c .number-of .result) (opened .«open» .last .1 .0) (opened .«open» .last .1 .1 .0) (opened .«open» .last .1 .1 .1 .0))
     (setup .setup-of .ensures)
-    (lists-left _ (opened .«open» .result .answer) _ 0 _ _ _ [] (c .number-of .ensures) (opened .«open» .ensures .does))
+    (lists-left _ (opened .«open» .result .answer) _ 0 _ _ _ [] [] (c .number-of .ensures) (opened .«open» .ensures .does))
 
 pub sentivolus-open-spec : {M : Type 1} → statement M
 sentivolus-open-spec =

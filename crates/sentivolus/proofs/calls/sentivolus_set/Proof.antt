@@ -23,7 +23,7 @@ returns c =
     subst
     (λ (s : Setup). ListsLeft (call (engine s) (s .voices) (callSet (a .voice) p) (before (bankOf (now (a .targets)) [] [] 0))) (c .number-of .result) (done .set .last .1 .1 .0) [] [])
     (setup .setup-of .ensures)
-    (lists-left _ (done .set .result) _ 0 _ [] [] [] (c .number-of .ensures) (done .set .ensures [] []))
+    (lists-left _ (done .set .result) _ 0 _ [] [] [] [] (c .number-of .ensures) (done .set .ensures [] []))
 
 pub sentivolus-set-spec : {M : Type 1} → statement M
 sentivolus-set-spec = tie.close (tie.spec (λ c κs. tt) (λ c κs. tt) (λ c κs. tt) (λ c. search needs) returns)

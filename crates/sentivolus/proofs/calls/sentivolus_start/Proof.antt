@@ -21,7 +21,7 @@ returns c =
     subst
     (λ (s : Setup). ListsLeft (call (engine s) (s .voices) (callStart (a .voice)) (before (bankOf (now (a .targets)) (now (a .records)) (now (a .delay)) 0))) (c .number-of .result) (now (a .targets)) (done .start .last .1 .1 .1 .0) (done .start .last .1 .1 .1 .1 .0))
     (setup .setup-of .ensures)
-    (lists-left _ (done .start .result) _ 0 _ _ _ [] (c .number-of .ensures) (done .start .ensures))
+    (lists-left _ (done .start .result) _ 0 _ _ _ [] [] (c .number-of .ensures) (done .start .ensures))
 
 pub sentivolus-start-spec : {M : Type 1} → statement M
 sentivolus-start-spec =

@@ -1,0 +1,17 @@
+-- For the proofs: nothing here must be believed.
+-- A ratio and a gain with their marks, as the code gives them. Definitions only. Assumes nothing.
+use lib.Ieee.{Float}
+use Rattle.filter.specs.declared.Pitch.{Pitch}
+use Rattle.filter.specs.declared.Ratio.{Ratio}
+use Rattle.filter.specs.declared.Capped.{Capped}
+use Rattle.filter.specs.declared.JudgedGain.{JudgedGain}
+use Rattle.filter.specs.Filter.{ratioAt, overAt, ratioOf, overOf, gainOf}
+
+unfoldable pub cappedAt : Float → Ratio → Capped
+cappedAt octaves reference = record { ratio = ratioAt octaves reference; over = overAt octaves reference }
+
+unfoldable pub cappedOf : Pitch → Ratio → Capped
+cappedOf pitch reference = record { ratio = ratioOf pitch reference; over = overOf pitch reference }
+
+unfoldable pub judgedGain : Pitch → Ratio → JudgedGain
+judgedGain pitch reference = record { g = gainOf pitch reference; over = overOf pitch reference }
