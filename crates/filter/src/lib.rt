@@ -1,6 +1,5 @@
 // What mod.rs gives the extended kernels: a voice's settings and targets, the pitch's way to a ratio and a gain, the state-variable stage.
 ghost use mathlib.Core.Path.{_≡_};
-ghost use mathlib.Core.Bool.{Bool};
 ghost use lib.Ieee.{isNan};
 ghost use Rattle.filter.specs.Filter.{octavesOf, ratioOf, overOf, once, gainAt, gainOf};
 ghost use Rattle.filter.specs.Judged.{cappedAt, cappedOf, judgedGain};

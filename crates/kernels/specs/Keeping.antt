@@ -21,7 +21,8 @@ use Rattle.combs.specs.Combs.{combCoefficients, combWith, combOver}
 use Rattle.poles.specs.Poles.{poleCoefficients, poleOver, poleStep}
 use Rattle.poles.specs.Numbers.{poleNumbers, sectionAt, numbers-step}
 use Rattle.kernels.specs.Tuning.{threeNumbers, djNumbers, rowNumbers, drivenNumbers, combNumbers, bandNumbers, multimodeNumbers}
-use Rattle.kernels.specs.Tuning.{k35Numbers, gainNumbers, numbersOf, tuningOf, tunedOver, rowsFrom, expanderFrom, weightsFrom, keyOf, blendedOf, blendedOver}
+use Rattle.kernels.specs.Tuning.{k35Numbers, gainNumbers, numbersOf, tuningOf, tunedOver, rowsFrom, expanderFrom, weightsFrom, keyOf}
+use Rattle.kernels.specs.Tuning.{blendedOf, blendedOver}
 use Rattle.kernels.specs.Kernels.{overCount}
 use Rattle.kernels.specs.Contracts.{Kept, KeptSections}
 
@@ -132,7 +133,8 @@ module _ (code : ℕ) (table : Table) (pitch : Pitch) (p key : Settings) (o o1 o
   over-is e e2 = counted _ _ o o1 o2 (eqb code 8) (e1 ∙ e) e2
 
   -- it stays right for the sections while the tuning is brought to a frame
-  pub sections-pass : (t : List Float) → KeptSections code sections (table .active) reference t o → KeptSections code sections (table .active) reference t o1
+  pub sections-pass : (t : List Float)
+      → KeptSections code sections (table .active) reference t o → KeptSections code sections (table .active) reference t o1
   unfolding KeptSections tunedOver blendedOver
   sections-pass t h n = (h n .0, passed _ _ o o1 o1 (eqb code 8) e1 (h n .1))
 

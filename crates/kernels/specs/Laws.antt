@@ -2,7 +2,7 @@
 -- A kernel keeps its states' number and its ring's length, and its tick judges at most eight ratios, whatever the structure.
 -- Assumes nothing.
 use mathlib.Core.Path.{_≡_, refl}
-use Prim.Native.Nat.{ℕ, suc, _+_, _≤_, min, zero-le}
+use Prim.Native.Nat.{ℕ, _+_, _≤_, min, zero-le}
 use native.Mathlib.Omega.{arith}
 use mathlib.Core.Bool.{Bool, true, false, cond}
 use mathlib.Core.List.{List}
@@ -17,6 +17,7 @@ use Rattle.lines.specs.Lines.{ringWrite}
 use Rattle.pole_zero.specs.declared.Table.{Table}
 use Rattle.filter.specs.declared.Pitch.{Pitch}
 use Rattle.filter.specs.Filter.{octavesOf, overAt, overOf, once}
+use Rattle.filter.specs.Judged.{once-most}
 use Rattle.extended.specs.declared.Settings.{Settings}
 use Rattle.extended.specs.Extended.{Ticked}
 use Rattle.sweeps.specs.declared.BuzzMorph.{BuzzMorph}
@@ -143,10 +144,6 @@ module _ (code : ℕ) (table : Table) (len cursor : ℕ) (pitch : Pitch) (p : Se
       (record { states = refl; cells = refl }))))))))))))
 
 -- ---- a tick judges at most eight ratios
-
-once-most : (b : Bool) → once b ≤ 1
-once-most true = omega arith
-once-most false = omega arith
 
 sections-most : (m : ℕ → ℕ) → ((j : ℕ) → m j ≤ 1) → (n : ℕ) → upto (λ j t. t + m j) n 0 ≤ n
 sections-most m h n = upto-count (λ (k t : ℕ). t ≤ k) (λ j t. t + m j) n 0 (λ k t l e. omega (arith, h k)) zero-le

@@ -19,6 +19,7 @@ use Rattle.lane.specs.Floats as floats
 use Rattle.filter.specs.declared.Pitch.{Pitch}
 use Rattle.filter.specs.declared.Ratio.{Ratio}
 use Rattle.filter.specs.Filter.{octavesOf, overAt}
+use Rattle.filter.specs.Judged.{once-most}
 use Rattle.extended.specs.Extended.{Ticked}
 use Rattle.poles.specs.declared.PoleSection.{PoleSection}
 use Rattle.poles.specs.declared.JudgedSection.{JudgedSection}
@@ -48,12 +49,11 @@ pub mark-most : (n : ℕ) (sections : List Float) (x y transpose : Float) (refer
     → s ≡ runningSection n sections x y transpose reference j → s .over ≤ 1
 unfolding runningSection runningOver sectionOver
 mark-most n sections x y transpose reference j e =
-    subst (λ (s : JudgedSection). s .over ≤ 1) (sym e) (go (ltb j n) (overAt (transpose ⊕ blendOf sections (term j 0) x y) reference))
+    subst (λ (s : JudgedSection). s .over ≤ 1) (sym e) (go (ltb j n) _ (once-most (overAt (transpose ⊕ blendOf sections (term j 0) x y) reference)))
   where
-    go : (a b : Bool) → cond a (cond b 1 0) 0 ≤ 1
-    go true true = omega arith
-    go true false = omega arith
-    go false b = omega arith
+    go : (b : Bool) (k : ℕ) → k ≤ 1 → cond b k 0 ≤ 1
+    go true k h = h
+    go false k h = omega arith
 
 -- a section's five numbers, counted from 0
 abbrev pub number : PoleSection → ℕ → Float

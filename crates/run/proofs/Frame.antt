@@ -1,6 +1,6 @@
 -- A frame from its parts: what `smooth`, `steer`, `kernel_tick` and `mix` leave is what the definition's tick leaves.
 -- Assumes nothing.
-use mathlib.Core.Path.{_≡_, refl, sym, ap, _∙_}
+use mathlib.Core.Path.{_≡_, refl, ap, _∙_}
 use mathlib.Core.Bool.{Bool, true, false}
 use mathlib.Core.List.{List, _++_}
 use lib.ListN.{length}

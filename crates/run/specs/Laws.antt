@@ -3,7 +3,7 @@
 use mathlib.Core.Path.{_≡_, refl, _∙_}
 use Prim.Native.Nat.{ℕ, _≤_}
 use mathlib.Core.Bool.{Bool, true, false, cond}
-use mathlib.Core.List.{List, _++_}
+use mathlib.Core.List.{List}
 use native.Mathlib.Omega.{arith}
 use lib.ListN.{length, take, drop, length-set, length-append, length-drop}
 use lib.Ieee.{Float}
@@ -11,7 +11,6 @@ use Rattle.lane.specs.Floats.{_‼_}
 use Rattle.filter.specs.Voice.{CHARACTER}
 use Rattle.extended.specs.Extended.{smoothMark}
 use Rattle.pole_zero.specs.declared.Table.{Table}
-use Rattle.kernels.specs.Kernels.{Kernel}
 use Rattle.kernels.specs.Laws.{SameLengths, kernel-lengths, over-most}
 use Rattle.voices.specs.Calls.{targetsWidth, recordWidth, Steering}
 use Rattle.run.specs.declared.Constants.{Constants}

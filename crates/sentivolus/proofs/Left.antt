@@ -1,10 +1,9 @@
 -- What a call of the bank leaves, in the numbers that the exported calls answer. By the cases of the answer. Assumes nothing.
 use mathlib.Core.Path.{_≡_, refl, ap, _∙_}
 use Prim.Native.Nat.{ℕ}
-use native.Mathlib.Omega.{arith}
 use mathlib.Core.List.{List, [], _∷_}
 use lib.Ieee.{Float}
-use Rattle.voices.specs.Calls.{Check, fine, refused, Bank, Block, Run, Answer, refusedCall, callBlock, perform, call, verdict}
+use Rattle.voices.specs.Calls.{Check, fine, refused, Bank, Block, Run, Answer, callBlock, perform, call, verdict}
 use Rattle.checks.specs.declared.Setup.{Setup}
 use Rattle.checks.specs.Setup.{engine}
 use Rattle.bank.specs.declared.Answer.{Answer as CodeAnswer}

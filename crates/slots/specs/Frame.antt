@@ -17,7 +17,7 @@ use Rattle.run.specs.declared.FrameInput.{FrameInput}
 use Rattle.run.specs.declared.Sample.{Sample}
 use Rattle.run.specs.Run.{tickWith}
 use Rattle.run.specs.Contracts.{steeringOf, tableFor, tickOn, TickLeaves}
-use Rattle.voices.specs.Calls.{targetsWidth, recordWidth, Steering, Tick, Engine, Block, BlockRun, SlotRun}
+use Rattle.voices.specs.Calls.{targetsWidth, recordWidth, Tick, Engine, Block, BlockRun, SlotRun}
 use Rattle.voices.specs.Calls.{cursorAfter, steeringAt, tickAt, frameOf, framesOf, slotOf, blockOf}
 use Rattle.slots.specs.declared.Prepared.{Prepared}
 use Rattle.slots.specs.declared.Slot.{Slot}

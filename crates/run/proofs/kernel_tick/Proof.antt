@@ -1,6 +1,5 @@
 -- `run::kernel_tick` meets its contract: each call gives its part of the definition.
 use borrow.Author.Needs.{needs}
-use mathlib.Core.Path.{_≡_, _∙_}
 use denote.Ref.{now}
 use Rattle.run.specs.Run.{kernelTick, overTick}
 use Rattle.run.proofs.Keeping.{before-blend, tuned-at, judged, keeps}

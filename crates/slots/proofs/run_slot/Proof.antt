@@ -1,5 +1,5 @@
 -- `run_slot` meets its contract: two loads are the slot's record, the frames are `run_frames`, and the record and the count are stored.
-use mathlib.Core.Path.{refl, sym, ap, _∙_}
+use mathlib.Core.Path.{refl, ap, _∙_}
 use mathlib.Core.Bool.{true≢false}
 use mathlib.Core.List.{List, _++_}
 use Prim.Native.Nat.{ℕ, _+_}

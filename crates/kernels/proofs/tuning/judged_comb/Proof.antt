@@ -1,19 +1,11 @@
 -- `kernels::tuning::judged_comb` meets its contract: each call gives its part of the definition, and twice a mark does not overflow.
-use mathlib.Core.Path.{_≡_, ap, _∙_}
-use mathlib.Core.Bool.{Bool, true, false}
-use Prim.Native.Nat.{_≤_}
+use mathlib.Core.Path.{ap}
 use native.Mathlib.Omega.{arith}
-use Rattle.filter.specs.declared.Ratio.{Ratio}
 use Rattle.filter.specs.declared.Capped.{Capped}
-use Rattle.filter.specs.Filter.{once}
-use Rattle.filter.specs.Judged.{cappedOf}
+use Rattle.filter.specs.Judged.{cappedOf, once-most}
 use Rattle.combs.specs.Combs.{combOver}
 use Rattle.kernels.proofs.tuning.judged_comb.Statement.{statement}
 use Rattle.kernels.proofs.tuning.judged_comb.Tie as tie
-
-once-most : (b : Bool) → once b ≤ 1
-once-most true = omega arith
-once-most false = omega arith
 
 returns : tie.Need-returns
 unfolding cappedOf combOver

@@ -1,8 +1,7 @@
 -- `kernels::tuning::retune` meets its contract: what is kept is of the same pitch and character, or it is worked out.
-use mathlib.Core.Path.{_≡_, _∙_}
+use mathlib.Core.Path.{_∙_}
 use denote.Ref.{now}
 use lib.Ieee.{ofBits, round}
-use Rattle.filter.specs.declared.Pitch.{Pitch}
 use Rattle.kernels.specs.Tuning.{tuningOf, tunedOver, keyOf}
 use Rattle.kernels.specs.Contracts.{Kept}
 use Rattle.kernels.proofs.tuning.retune.Statement.{statement}

@@ -1,7 +1,6 @@
 -- `kernels::tuning::tuned` meets its contract: the list is that of the structure's numbers.
 use mathlib.Core.Path.{ap}
-use mathlib.Core.List.{List, [], _∷_}
-use lib.Ieee.{Float}
+use mathlib.Core.List.{[], _∷_}
 use Rattle.kernels.specs.declared.tuning.Numbers.{Numbers}
 use Rattle.kernels.specs.Tuning.{tuningOf}
 use Rattle.kernels.proofs.tuning.tuned.Statement.{statement}
