@@ -2,14 +2,20 @@
 # bench.sh: the proved library and the Rust's scalar lane (with document 01's stand-ins) in one run. MILLIS sets the time a cell.
 set -eu
 . "$(dirname "$0")/common.sh"
-usage="usage: bench.sh [silence] [--oracle FOLDER] [--help]
+usage="usage: bench.sh [silence] [--before ARCHIVE] [--oracle FOLDER] [--help]
   silence          the table of silence alone
+  --before ARCHIVE an earlier libsentivolus.a, from version 200 on, beside this one and the Rust: its table alone
   --oracle FOLDER  the folder that holds assemble.py (../shared/oracle beside the repository)"
-tables=() oracle=$timed
+tables=() oracle=$timed before=
 while [ $# -gt 0 ]; do
     case $1 in
         --help) echo "$usage" && exit 0 ;;
         silence) tables=(silence) ;;
+        --before)
+            [ -f "${2-}" ] || misused "--before takes an archive"
+            before=$2
+            shift
+            ;;
         --oracle)
             [ -n "${2-}" ] || misused "--oracle takes a folder"
             oracle=$2
@@ -25,5 +31,10 @@ out=$here/target/bench
 mkdir -p "$out"
 python3 "$oracle/assemble.py" "$out" >/dev/null
 cp "$here/bench/bench.rs" "$out/std/src/driver/bench.rs"
-(cd "$out/std" && RUSTFLAGS="-L native=$here/../target/staticlib -l static=sentivolus" cargo build --release --offline --quiet)
+flags="--check-cfg=cfg(before) -L native=$here/../target/staticlib -l static=sentivolus"
+if [ -n "$before" ]; then
+    objcopy --redefine-syms=<(nm -g "$before" | awk '$2 == "T" { print $3, "before_" $3 }') "$before" "$out/libbefore.a"
+    flags="$flags --cfg before -L native=$out -l static=before"
+fi
+(cd "$out/std" && RUSTFLAGS=$flags cargo build --release --offline --quiet)
 exec "$out/std/target/release/oracle-std" bench "${tables[@]}"

@@ -116,32 +116,67 @@ fn block(e: &mut Engine, sections: &[f32], pitch: &[f32], audio: &mut [f32], cou
     assert_eq!((refused, done), (0, frames));
 }
 
+/// The same of an earlier archive, whose names bench.sh put `before_` before. Up to version 200 it took no counts.
+#[cfg(before)]
+fn block_before(e: &mut Engine, sections: &[f32], pitch: &[f32], audio: &mut [f32], counts: &mut [u32], frames: usize) {
+    macro_rules! block_type { ($($counts:ty),*) => { unsafe extern "C" fn(u32, f32, f32, usize, usize, bool, u32, *const f32, f32, *mut usize,
+        *const f32, usize, *mut f32, usize, *mut f32, usize, usize, *const f32, usize, bool, *const f32, usize, *const f32, usize,
+        *mut f32, usize, $($counts,)* *mut usize) -> u32 } }
+    unsafe extern "C" { fn before_sentivolus_block(); fn before_sentivolus_version() -> u32; }
+    let s = e.setup;
+    let mut done = 0usize;
+    let none = std::ptr::NonNull::dangling().as_ptr();
+    let name = before_sentivolus_block as *const ();
+    macro_rules! refused { ($block:ty $(, $counts:expr)*) => {
+        std::mem::transmute::<_, $block>(name)(s.code, f(s.rate), f(s.reference), s.voices as usize, s.channels as usize, false,
+            e.table.active as u32, sections.as_ptr(), e.table.gain, &mut e.cursor, e.t.as_ptr(), e.t.len(),
+            e.r.as_mut_ptr(), e.r.len(), e.d.as_mut_ptr(), e.d.len(), frames, pitch.as_ptr(), pitch.len(),
+            false, none, 0, none, 0, audio.as_mut_ptr(), audio.len(), $($counts,)* &mut done)
+    } }
+    let refused = unsafe {
+        if before_sentivolus_version() <= 200 { refused!(block_type!()) }
+        else { refused!(block_type!(*mut u32, usize), counts.as_mut_ptr(), counts.len()) }
+    };
+    assert_eq!((refused, done), (0, frames));
+}
+
 fn sections_of(e: &Engine) -> Vec<f32> { e.table.sections.iter().flatten().flatten().copied().collect() }
 
 fn counts_of(e: &Engine) -> Vec<u32> { vec![0; (e.setup.voices * e.setup.channels) as usize] }
 
-/// Best of several runs, the two taking turns. With `anew` each run starts from the case's state, which is put back outside of the time taken.
-fn measure_from(c: &Case, millis: u128, anew: bool) -> (f64, f64) {
+/// A block, of this archive or of an earlier one: engine, sections, pitch, audio, counts, frames.
+type Block = fn(&mut Engine, &[f32], &[f32], &mut [f32], &mut [u32], usize);
+
+/// Best of several runs of each block and of the Rust, all taking turns. With `anew` each run starts from the case's state, which is put back outside
+/// of the time taken.
+fn measure_each<const N: usize>(c: &Case, millis: u128, anew: bool, blocks: [Block; N]) -> ([f64; N], f64) {
     let per = c.audio.len();
     let reps = (16_000 / per).max(1);
     let sections = sections_of(&c.engine);
     let mut counts = counts_of(&c.engine);
-    let mut ours = c.engine.clone();
+    let mut ours = blocks.map(|_| c.engine.clone());
     let mut bank = c.engine.clone().bank();
     let mut audio = c.audio.clone();
-    let mut best = (f64::MAX, f64::MAX);
+    let (mut best, mut rust) = ([f64::MAX; N], f64::MAX);
     let begun = Instant::now();
     while begun.elapsed().as_millis() < millis {
-        if anew { (ours, bank) = (c.engine.clone(), c.engine.clone().bank()); }
+        if anew { (ours, bank) = (blocks.map(|_| c.engine.clone()), c.engine.clone().bank()); }
         let t = Instant::now();
         for _ in 0..reps { audio.copy_from_slice(&c.audio); extended::dispatch(&mut bank, None, &c.pitch, None, &mut audio, c.frames); }
-        best.1 = best.1.min(t.elapsed().as_nanos() as f64 / (reps * per) as f64);
-        let t = Instant::now();
-        for _ in 0..reps { audio.copy_from_slice(&c.audio); block(&mut ours, &sections, &c.pitch, &mut audio, &mut counts, c.frames); }
-        best.0 = best.0.min(t.elapsed().as_nanos() as f64 / (reps * per) as f64);
+        rust = rust.min(t.elapsed().as_nanos() as f64 / (reps * per) as f64);
+        for ((block, engine), best) in blocks.iter().zip(&mut ours).zip(&mut best) {
+            let t = Instant::now();
+            for _ in 0..reps { audio.copy_from_slice(&c.audio); block(engine, &sections, &c.pitch, &mut audio, &mut counts, c.frames); }
+            *best = best.min(t.elapsed().as_nanos() as f64 / (reps * per) as f64);
+        }
     }
     assert!(audio.iter().all(|x| x.is_finite()));
-    best
+    (best, rust)
+}
+
+fn measure_from(c: &Case, millis: u128, anew: bool) -> (f64, f64) {
+    let ([ours], rust) = measure_each(c, millis, anew, [block]);
+    (ours, rust)
 }
 
 fn measure(c: &Case, millis: u128) -> (f64, f64) { measure_from(c, millis, false) }
@@ -218,6 +253,26 @@ fn grid(millis: u128) {
     }
 }
 
+/// An earlier archive, this one and the Rust, taking turns.
+#[cfg(before)]
+fn before(millis: u128) {
+    println!("| code | pitch | voices x channels / frames: before, after, Rust (after over before) | | | |");
+    println!("|---|---|---|---|---|---|");
+    println!("| | | 1x1/64 | 1x1/4096 | 16x2/64 | 16x2/4096 |");
+    for code in 1..=12u32 {
+        for moving in [false, true] {
+            let mut row = format!("| {code} {:?} | {}", KINDS[code as usize - 1], if moving { "moving" } else { "held" });
+            for (v, n) in [(1, 1), (16, 2)] {
+                for frames in [64, 4096] {
+                    let ([a, b], rust) = measure_each(&case(code, 48000.0, v, n, frames, moving), millis, false, [block_before, block]);
+                    row += &format!(" | {a:.1}, {b:.1}, {rust:.1} ({:.3})", b / a);
+                }
+            }
+            println!("{row} |");
+        }
+    }
+}
+
 fn growth(millis: u128) {
     println!("\nGrowth, ours, code 9 (Comb2), held pitch, ns a voice-sample:");
     for (what, v, n, frames, rate) in [("1 voice mono, 64 frames", 1, 1, 64, 48000.0), ("4 voices", 4, 1, 64, 48000.0),
@@ -235,6 +290,14 @@ fn growth(millis: u128) {
 pub fn main() {
     let millis = std::env::var("MILLIS").ok().and_then(|m| m.parse().ok()).unwrap_or(300);
     if std::env::args().nth(2).as_deref() == Some("silence") { return silence(millis); }
+    #[cfg(before)]
+    return before(millis);
+    #[cfg(not(before))]
+    every(millis);
+}
+
+#[cfg(not(before))]
+fn every(millis: u128) {
     parts(millis);
     grid(millis);
     let (a, b) = roots();
