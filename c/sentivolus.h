@@ -31,9 +31,10 @@
  *   delay       sentivolus_ring_len(rate) a slot: the ring
  *   pitch, x, y [frame][voice]; x and y are empty in an unsteered block
  *   audio       [frame][channel][voice], filtered in place
- *   counts      one u32 a slot, written anew by each block: how often in it a cutoff was over the pitch ceiling, 0.49 of the rate, before it was
- *               held there. A frame counts 0 or 1; with SENTIVOLUS_COMB2 0 or 2, its two reads; with SENTIVOLUS_POLE_ZERO each running section
- *               that was over, 0 to 8
+ *   counts      one u32 a slot, written anew by each accepted block: how often in it a cutoff was over the pitch ceiling, 0.49 of the rate, before
+ *               it was held there (equal is not over, NaN is not). A frame counts 0 or 1; with SENTIVOLUS_COMB2 0 or 2, its two reads; with
+ *               SENTIVOLUS_POLE_ZERO each running section that was over, 0 to 8. With SENTIVOLUS_DJ_SWEEP the cutoff is the one that the sweep
+ *               comes to, not the pitch handed in
  *   sections    160 numbers: by section, then octaves, damping, high, band, low, then the terms c, x, y, xy of each
  */
 #ifndef SENTIVOLUS_H

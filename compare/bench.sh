@@ -4,7 +4,7 @@ set -eu
 . "$(dirname "$0")/common.sh"
 usage="usage: bench.sh [silence] [--before ARCHIVE] [--oracle FOLDER] [--help]
   silence          the table of silence alone
-  --before ARCHIVE an earlier libsentivolus.a, from version 200 on, beside this one and the Rust: its table alone
+  --before ARCHIVE an earlier libsentivolus.a, from version 200 on, beside this one and the Rust: its table alone (needs nm and objcopy)
   --oracle FOLDER  the folder that holds assemble.py (../shared/oracle beside the repository)"
 tables=() oracle=$timed before=
 while [ $# -gt 0 ]; do
@@ -25,6 +25,7 @@ while [ $# -gt 0 ]; do
     esac
     shift
 done
+[ -z "$before" ] || [ ${#tables[@]} -eq 0 ] || misused "--before has a table of its own"
 need_oracle "$oracle"
 out=$here/target/bench
 "$here/build.sh" >&2

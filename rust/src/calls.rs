@@ -176,8 +176,9 @@ pub fn start(s: &Setup, cursor: usize, targets: &[f32], records: &mut [f32], del
 /// Filters a block of audio in place; answers the new cursor and the frames rendered.
 ///
 /// To `counts`, one number a slot, it writes how often in this block a cutoff was over the pitch ceiling, the cap of [`ratio_of`](crate::ratio_of), before
-/// it was held there. A frame counts 0 or 1; with [`Structure::Comb2`] 0 or 2, its two reads; with [`Structure::PoleZero`] each running section that was
-/// over, 0 to 8.
+/// it was held there; an equal one is not over, nor is a NaN. A frame counts 0 or 1; with [`Structure::Comb2`] 0 or 2, its two reads; with
+/// [`Structure::PoleZero`] each running section that was over, 0 to 8. With [`Structure::DjSweep`] the cutoff is the one that the sweep comes to, not the
+/// pitch handed in.
 #[allow(clippy::too_many_arguments)]
 pub fn block(s: &Setup, cursor: usize, targets: &[f32], records: &mut [f32], delay: &mut [f32], b: Block<'_>,
     audio: &mut [f32], counts: &mut [u32]) -> Result<(usize, usize), Refusal> {

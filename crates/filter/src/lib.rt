@@ -52,13 +52,14 @@ pub fn once(over: bool) -> u32
     if over { 1 } else { 0 }
 }
 
-// The cutoff, as a fraction of the sample rate, of a pitch.
+// A pitch's ratio, and whether it was greater than the cap.
 pub fn capped_of(pitch: Pitch, reference: Ratio) -> Capped
     ensures { λ r. ⌜ r ≡ cappedOf pitch reference ⌝ }
 {
     capped_at(octaves_of(pitch), reference)
 }
 
+// The cutoff, as a fraction of the sample rate, of a pitch.
 pub fn ratio_of(pitch: Pitch, reference: Ratio) -> Ratio
     ensures { λ r. ⌜ r ≡ ratioOf pitch reference ⌝ }
 {
@@ -85,7 +86,7 @@ pub struct JudgedGain {
     pub over: bool,
 }
 
-// The prewarped integrator gain of a pitch.
+// The gain with its ratio's mark.
 pub fn judged_gain(pitch: Pitch, reference: Ratio) -> JudgedGain
     ensures { λ r. ⌜ r ≡ judgedGain pitch reference ⌝ }
 {
@@ -96,6 +97,7 @@ pub fn judged_gain(pitch: Pitch, reference: Ratio) -> JudgedGain
     }
 }
 
+// The prewarped integrator gain of a pitch.
 pub fn gain(pitch: Pitch, reference: Ratio) -> f32
     ensures { λ r. ⌜ r ≡ gainOf pitch reference ⌝ }
 {

@@ -50,7 +50,7 @@ kernelOf code table len cursor pitch p state ring x =
     (record { out = x; state = state; ring = ring }))))))))))))
 
 -- C-11: how often its tick judges a ratio greater than the cap. PoleZero judges once a section, Comb2 once at each of its two reads, any
--- other kernel once a tick; the ratio that DjSweep caps is that of its own cutoff
+-- other kernel, which caps one ratio, once a tick; DjSweep's is that of its own cutoff
 unfoldable pub overCount : (code : ℕ) → Table → Pitch → Settings → ℕ
 overCount code table pitch p =
     cond (eqb code 8) (poleOver (table .sections) (table .active) (p .x) (p .y) (octavesOf pitch) (p .«ref_over_rate»))

@@ -223,11 +223,7 @@ fn put_targets(out: &mut [u8], at: usize, x: [f32; 9]) -> usize {
 
 // Whether the ratio of a pitch was greater than its cap, as 1 or 0.
 fn over_of(x: [f32; 9]) -> u64 {
-    if filter::over_of(Pitch(x[0]), Ratio(x[1])) {
-        1
-    } else {
-        0
-    }
+    filter::once(filter::over_of(Pitch(x[0]), Ratio(x[1]))) as u64
 }
 
 // The rows of names 0 to 15.
