@@ -1,4 +1,5 @@
 /* Opens a bank of four voices in stereo, renders a second of a chord through a sweeping transistor ladder, and prints what it did.
+ * Half-way the bank is parked and goes on as restored, which changes no bit of the sound.
  * With a file's name it also writes the sound there, as 16-bit WAV.
  *
  * Build and run, from the repository's root, once `rt staticlib sentivolus` has made the archive:
@@ -19,11 +20,11 @@ static float audio[BLOCK * CHANNELS * VOICES];
 static uint32_t counts[CHANNELS * VOICES];
 static float mix[RATE * CHANNELS];
 
-static float *numbers(size_t n)
+static void *memory(size_t bytes)
 {
-    float *list = (float *)malloc(n * sizeof(float));
+    void *list = malloc(bytes);
     if (!list) {
-        fprintf(stderr, "example: no memory for %lu numbers\n", (unsigned long)n);
+        fprintf(stderr, "example: no memory for %lu bytes\n", (unsigned long)bytes);
         exit(1);
     }
     return list;
@@ -36,6 +37,38 @@ static void must(sentivolus_refusal refusal, const char *call)
         return;
     fprintf(stderr, "example: %s refused %d, %s\n", call, (int)refusal, sentivolus_refusal_word(refusal));
     exit(1);
+}
+
+/* The lists that the setup asks for. */
+static void make_lists(const sentivolus_setup *setup, sentivolus_bank *bank)
+{
+    bank->targets_len = sentivolus_targets_len(setup);
+    bank->records_len = sentivolus_records_len(setup);
+    bank->delay_len = sentivolus_delay_len(setup);
+    bank->targets = (float *)memory(bank->targets_len * sizeof(float));
+    bank->records = (float *)memory(bank->records_len * sizeof(float));
+    bank->delay = (float *)memory(bank->delay_len * sizeof(float));
+}
+
+static void free_lists(sentivolus_bank *bank)
+{
+    free(bank->targets);
+    free(bank->records);
+    free(bank->delay);
+}
+
+/* Parks the bank and restores it in new lists, all else from the file. Answers the file's bytes. */
+static size_t park_and_restore(sentivolus_setup *setup, sentivolus_bank *bank)
+{
+    size_t bytes = sentivolus_file_len(setup);
+    uint8_t *file = (uint8_t *)memory(bytes);
+    must(sentivolus_bank_park(setup, bank, file, bytes), "park");
+    free_lists(bank);
+    must(sentivolus_file_setup(file, bytes, setup, NULL), "file_setup");
+    make_lists(setup, bank);
+    must(sentivolus_bank_restore(file, bytes, setup, bank), "restore");
+    free(file);
+    return bytes;
 }
 
 /* The sawtooth of each voice on both channels, and a cutoff that rises two octaves a second from 24 semitones above the reference. */
@@ -135,12 +168,7 @@ int main(int count, char **words)
     float phase[VOICES] = {0.0f};
     unsigned long swept = 0;
 
-    bank.targets_len = sentivolus_targets_len(&setup);
-    bank.records_len = sentivolus_records_len(&setup);
-    bank.delay_len = sentivolus_delay_len(&setup);
-    bank.targets = numbers(bank.targets_len);
-    bank.records = numbers(bank.records_len);
-    bank.delay = numbers(bank.delay_len);
+    make_lists(&setup, &bank);
     must(sentivolus_bank_open(&setup, &bank), "open");
     printf("sentivolus %u: %d voices, %d channels at %d Hz\n", (unsigned)sentivolus_version(), VOICES, CHANNELS, RATE);
     printf("lists: %lu targets, %lu records, %lu delay cells\n", (unsigned long)bank.targets_len, (unsigned long)bank.records_len,
@@ -162,6 +190,9 @@ int main(int count, char **words)
     input.x = input.y = NULL;
     input.x_len = input.y_len = 0;
     for (size_t block = 0; block < BLOCKS; block++) {
+        if (block == BLOCKS / 2)
+            printf("parked after %lu blocks in a file of %lu bytes, restored in new lists\n", (unsigned long)block,
+                   (unsigned long)park_and_restore(&setup, &bank));
         feed(block, phase);
         must(sentivolus_bank_block(&setup, &bank, &input, audio, BLOCK * CHANNELS * VOICES, counts, CHANNELS * VOICES), "block");
         take(block);
@@ -179,9 +210,7 @@ int main(int count, char **words)
     input.frames = 4097;
     printf("a block of 4097 frames is refused: %s\n",
            sentivolus_refusal_word(sentivolus_bank_block(&setup, &bank, &input, audio, BLOCK * CHANNELS * VOICES, counts, CHANNELS * VOICES)));
-    free(bank.targets);
-    free(bank.records);
-    free(bank.delay);
+    free_lists(&bank);
     if (count > 1) {
         if (!write_wav(words[1])) {
             fprintf(stderr, "example: cannot write %s\n", words[1]);

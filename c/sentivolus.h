@@ -1,7 +1,7 @@
 /* Sentivolus, the proved voice filter bank: its interface for C and C++.
  *
  * Link target/staticlib/libsentivolus.a (x86-64 Linux; `rt staticlib sentivolus` writes it). It needs memcpy and memset alone.
- * example.c, beside this file, opens a bank and renders a chord.
+ * example.c, beside this file, opens a bank, renders a chord, and parks and restores it half-way.
  *
  * 1. Numbers and names   2. Structs   3. The archive's symbols   4. The calls
  * The calls of part 4 take structs and see to the float environment: use these. They are inline, over the symbols of part 3, which take
@@ -19,10 +19,13 @@
  *   Ownership   The caller owns every list and struct and lends it for the call; nothing is kept between calls.
  *   Pointers    A list is a pointer and its length in elements. An empty list may have any pointer, NULL too. Every other pointer must be
  *               valid and aligned as its type asks; none is tested.
- *   Aliasing    What a call writes (a list, *cursor, *rendered, out) overlaps nothing else that the call is lent.
+ *   Aliasing    What a call writes (a list, the file, *cursor, *rendered, out, the numbers of a setup) overlaps nothing else that the call
+ *               is lent.
  *   Threads     The archive has no variables. Any thread may call it; two calls at once share no list that one of them writes.
- *   Real time   No allocation, no lock, no system call. Less than 8 KiB of stack. The time goes with voices x channels x frames;
- *               numbers in the subnormal range take several times as long (docs/PERFORMANCE.md).
+ *   Real time   No allocation, no lock, no system call. Less than 8 KiB of stack; reading a parked file (sentivolus_file_setup and
+ *               sentivolus_bank_restore, and the symbols under them) less than 64 KiB, for a table of its blocks' places. The time goes
+ *               with voices x channels x frames, that of parking and reading with the file's bytes; numbers in the subnormal range
+ *               take several times as long (docs/PERFORMANCE.md).
  *
  * Layouts (slot = channel * voices + voice)
  *
@@ -36,6 +39,11 @@
  *               SENTIVOLUS_POLE_ZERO each running section that was over, 0 to 8. With SENTIVOLUS_DJ_SWEEP the cutoff is the one that the sweep
  *               comes to, not the pitch handed in
  *   sections    160 numbers: by section, then octaves, damping, high, band, low, then the terms c, x, y, xy of each
+ *   file        a parked bank, in blocks of 512 bytes, little-endian: byte 0 kind, byte 1 voice or slot, bytes 2 and 3 part; then 126 words, 0 where
+ *               unused, floats as their bits, NaN as 7fc00000; then the word that makes the sum of all 128 words zero modulo 2^32.
+ *               Kind 1, parts 0 and 1, byte 1 zero: code, voices, channels, clean 0 or 1, rate, reference, cursor low, cursor high, active,
+ *               sections, gain. Kind 2, part 0: a voice's targets. Kind 3, part 0: a slot's record. Kind 4: a slot's ring, cell 0 first, 126 a part.
+ *               Written by kind, then voice or slot, then part. Read in any order; unused words are ignored, and any NaN is taken
  */
 #ifndef SENTIVOLUS_H
 #define SENTIVOLUS_H
@@ -51,7 +59,7 @@ extern "C" {
 
 /* 10,000 x major + 100 x minor + patch. It grows with every change of a call, a struct or a layout; sentivolus_version() gives that of the
  * archive. */
-#define SENTIVOLUS_VERSION 300
+#define SENTIVOLUS_VERSION 400
 
 enum {
     SENTIVOLUS_MOST_VOICES = 16,
@@ -94,7 +102,7 @@ typedef enum sentivolus_kind {
 } sentivolus_kind;
 
 /* What a call answers: 0, or the refusal whose condition was met first. Checks run in this order, each call making those whose values it
- * takes. */
+ * takes; those of a parked file have an order of their own, said at sentivolus_bank_restore. */
 typedef enum sentivolus_refusal {
     SENTIVOLUS_ACCEPTED = 0,
     SENTIVOLUS_REFUSED_RATE = 1,      /* rate NaN, below 8,000 or above 384,000 */
@@ -102,19 +110,21 @@ typedef enum sentivolus_refusal {
     SENTIVOLUS_REFUSED_POLYPHONY = 3, /* voices not 1 to 16 */
     SENTIVOLUS_REFUSED_LAYOUT = 4,    /* channels not 1 or 2 */
     SENTIVOLUS_REFUSED_STRUCTURE = 5, /* code not 1 to 12 */
-    SENTIVOLUS_REFUSED_STORE = 6,     /* targets, records or delay not exactly as long as the setup asks */
+    SENTIVOLUS_REFUSED_STORE = 6,     /* targets, records, delay or the file to be written not exactly as long as the setup asks */
     SENTIVOLUS_REFUSED_VOICE = 7,     /* voice number not below voices */
     SENTIVOLUS_REFUSED_KNOB = 8,      /* NaN resonance, drive, saturation, character or mix */
     SENTIVOLUS_REFUSED_FRAMES = 9,    /* frames 0 or above 4,096 */
     SENTIVOLUS_REFUSED_BUFFER = 10,   /* pitch, x, y or audio not exactly as long as the frames ask, or counts as the slots ask */
-    SENTIVOLUS_REFUSED_POINT = 11     /* point number above 7 */
+    SENTIVOLUS_REFUSED_POINT = 11,    /* point number above 7 */
+    SENTIVOLUS_REFUSED_DAMAGED = 12,  /* a parked file's length no multiple of 512, or a block whose words do not sum to zero */
+    SENTIVOLUS_REFUSED_BLOCKS = 13    /* a block of a parked file missing, doubled or unknown, or its clean word above 1 */
 } sentivolus_refusal;
 
 /* The trade's word for a refusal's number. */
 static inline const char *sentivolus_refusal_word(uint32_t number)
 {
     static const char *const words[] = {"accepted", "rate", "tuning", "polyphony", "layout", "structure",
-                                        "store", "voice", "knob", "frames", "buffer", "point"};
+                                        "store", "voice", "knob", "frames", "buffer", "point", "damaged", "blocks"};
     return number < sizeof words / sizeof words[0] ? words[number] : "unknown";
 }
 
@@ -127,7 +137,8 @@ typedef struct sentivolus_pole_zero_table {
     float sections[SENTIVOLUS_SECTIONS];
 } sentivolus_pole_zero_table;
 
-/* What a bank is opened with; every later call is handed it again. Make it by sentivolus_new_setup: later versions add fields. */
+/* What a bank is opened with; every later call is handed it again. Make it by sentivolus_new_setup or sentivolus_file_setup: later versions add
+ * fields. */
 typedef struct sentivolus_setup {
     uint32_t code;   /* a sentivolus_code */
     float rate;      /* samples a second, 8,000 to 384,000 */
@@ -221,6 +232,28 @@ uint32_t sentivolus_block(uint32_t code, float rate, float reference, size_t voi
                           float *delay, size_t delay_len, size_t frames, const float *pitch, size_t pitch_len, bool steered,
                           const float *x, size_t x_len, const float *y, size_t y_len, float *audio, size_t audio_len,
                           uint32_t *counts, size_t counts_len, size_t *rendered);
+
+/* The bytes of the file that a bank of this setup is parked in; 0 for a setup that is refused. */
+size_t sentivolus_park_len(uint32_t code, float rate, float reference, size_t voices, size_t channels, bool clean,
+                           uint32_t active, const float sections[], float gain);
+
+/* Parks a bank in a file of exactly that length. The bank stays as it is. */
+uint32_t sentivolus_park(uint32_t code, float rate, float reference, size_t voices, size_t channels, bool clean,
+                         uint32_t active, const float sections[], float gain, size_t cursor,
+                         const float *targets, size_t targets_len, const float *records, size_t records_len,
+                         const float *delay, size_t delay_len, uint8_t *file, size_t file_len);
+
+/* The setup and the cursor of a parked file, from which the lengths of the lists follow. Like sentivolus_restore it may read *clean before it
+ * writes it. */
+uint32_t sentivolus_parked_setup(const uint8_t *file, size_t file_len, uint32_t *code, float *rate, float *reference,
+                                 size_t *voices, size_t *channels, bool *clean,
+                                 uint32_t *active, float sections[], float *gain, size_t *cursor);
+
+/* Restores the bank of a parked file: its lists, its setup and its cursor. */
+uint32_t sentivolus_restore(const uint8_t *file, size_t file_len, float *targets, size_t targets_len, float *records, size_t records_len,
+                            float *delay, size_t delay_len, uint32_t *code, float *rate, float *reference,
+                            size_t *voices, size_t *channels, bool *clean,
+                            uint32_t *active, float sections[], float *gain, size_t *cursor);
 
 /* The nine default settings, in the order of sentivolus_params. */
 void sentivolus_defaults(float out[9]);
@@ -328,10 +361,12 @@ static inline sentivolus_params sentivolus_default_params(void)
     return p;
 }
 
-/* A setup and a bank's lists as the archive's symbols take them. */
+/* A setup and a bank's lists as the archive's symbols take them, and a setup as they write it. */
 #define SENTIVOLUS_SETUP_OF(s) \
     (s)->code, (s)->rate, (s)->reference, (s)->voices, (s)->channels, (s)->clean, (s)->table.active, (s)->table.sections, (s)->table.gain
 #define SENTIVOLUS_LISTS_OF(b) (b)->targets, (b)->targets_len, (b)->records, (b)->records_len, (b)->delay, (b)->delay_len
+#define SENTIVOLUS_SETUP_TO(s) \
+    &(s)->code, &(s)->rate, &(s)->reference, &(s)->voices, &(s)->channels, &(s)->clean, &(s)->table.active, (s)->table.sections, &(s)->table.gain
 
 /* 0 for a setup that can be opened, or 1 to 5. */
 static inline sentivolus_refusal sentivolus_setup_check(const sentivolus_setup *s)
@@ -366,6 +401,14 @@ static inline size_t sentivolus_delay_len(const sentivolus_setup *s)
 static inline size_t sentivolus_counts_len(const sentivolus_setup *s)
 {
     return sentivolus_setup_check(s) ? 0 : s->voices * s->channels;
+}
+
+static inline size_t sentivolus_file_len(const sentivolus_setup *s)
+{
+    unsigned before = sentivolus_floats_enter();
+    size_t bytes = sentivolus_park_len(SENTIVOLUS_SETUP_OF(s));
+    sentivolus_floats_leave(before);
+    return bytes;
 }
 
 /* Opens a bank on the lent lists: every voice at the defaults and started, cursor 0. Refusals 1 to 6. */
@@ -410,6 +453,48 @@ static inline sentivolus_refusal sentivolus_bank_block(const sentivolus_setup *s
                                        in->steered, in->x, in->x_len, in->y, in->y_len, audio, audio_len, counts, counts_len, &rendered);
     sentivolus_floats_leave(before);
     b->cursor = cursor;
+    return (sentivolus_refusal)answer;
+}
+
+/* Parks a bank in a file of sentivolus_file_len(s) bytes. The bank stays as it is. Refusals 1 to 6; 6 measures the file too. */
+static inline sentivolus_refusal sentivolus_bank_park(const sentivolus_setup *s, const sentivolus_bank *b, uint8_t *file, size_t file_len)
+{
+    unsigned before = sentivolus_floats_enter();
+    uint32_t answer = sentivolus_park(SENTIVOLUS_SETUP_OF(s), b->cursor, SENTIVOLUS_LISTS_OF(b), file, file_len);
+    sentivolus_floats_leave(before);
+    return (sentivolus_refusal)answer;
+}
+
+/* The setup of a parked file, from which the lengths of the lists follow, and its cursor unless that is NULL. Refusals as of
+ * sentivolus_bank_restore, without 6. */
+static inline sentivolus_refusal sentivolus_file_setup(const uint8_t *file, size_t file_len, sentivolus_setup *s, size_t *cursor)
+{
+    sentivolus_setup parked = sentivolus_new_setup(0, 0.0f, 0, 0);
+    size_t at = 0;
+    unsigned before = sentivolus_floats_enter();
+    uint32_t answer = sentivolus_parked_setup(file, file_len, SENTIVOLUS_SETUP_TO(&parked), &at);
+    sentivolus_floats_leave(before);
+    if (answer == SENTIVOLUS_ACCEPTED) {
+        *s = parked;
+        if (cursor)
+            *cursor = at;
+    }
+    return (sentivolus_refusal)answer;
+}
+
+/* Restores a parked bank: *s, the lists and b->cursor become, bit by bit, those that were parked, whatever they were. Refusals, in this order: 12;
+ * 13 for a kind 1 part missing or doubled or the clean word; 1 to 5 of the file's setup; 13 for any other block; 6 of the lists. */
+static inline sentivolus_refusal sentivolus_bank_restore(const uint8_t *file, size_t file_len, sentivolus_setup *s, sentivolus_bank *b)
+{
+    sentivolus_setup parked = sentivolus_new_setup(0, 0.0f, 0, 0);
+    size_t cursor = 0;
+    unsigned before = sentivolus_floats_enter();
+    uint32_t answer = sentivolus_restore(file, file_len, SENTIVOLUS_LISTS_OF(b), SENTIVOLUS_SETUP_TO(&parked), &cursor);
+    sentivolus_floats_leave(before);
+    if (answer == SENTIVOLUS_ACCEPTED) {
+        *s = parked;
+        b->cursor = cursor;
+    }
     return (sentivolus_refusal)answer;
 }
 
@@ -467,6 +552,7 @@ static inline sentivolus_refusal sentivolus_design_section(const sentivolus_desi
 
 #undef SENTIVOLUS_SETUP_OF
 #undef SENTIVOLUS_LISTS_OF
+#undef SENTIVOLUS_SETUP_TO
 
 #ifdef __cplusplus
 }

@@ -1,5 +1,6 @@
 /* What the declarations cannot say: that the calls give the same bits in every float environment and give the caller's back, that each number
- * arrives where it is meant to, and that the stack suffices. Prints `c: N checks` and answers 0, or says which failed. */
+ * arrives where it is meant to, that a parked file is as the header lays it out, and that the stack suffices. Prints `c: N checks` and answers 0,
+ * or says which failed. */
 #define _GNU_SOURCE
 #include "sentivolus.h"
 #include <math.h>
@@ -8,6 +9,9 @@
 #include <string.h>
 
 enum { VOICES = 2, CHANNELS = 2, SLOTS = VOICES * CHANNELS, FRAMES = 256, RING = 8192 };
+
+/* A parked file's blocks: their bytes, the words that each holds, and how many there are of these voices. */
+enum { BYTES = 512, HELD = 126, BLOCKS = 2 + VOICES + SLOTS + SLOTS * ((RING + HELD - 1) / HELD), FILE_LEN = BYTES * BLOCKS };
 
 static int checks, failures;
 
@@ -20,10 +24,11 @@ static void check(int holds, const char *what, int which)
     }
 }
 
-/* A bank with the lists of four slots at 48,000 Hz, a block's audio, and its counts with one more after them. */
+/* A bank with the lists of four slots at 48,000 Hz, a block's audio, its counts with one more after them, and a parked file. */
 typedef struct session {
     float targets[SENTIVOLUS_TARGETS * VOICES], records[SENTIVOLUS_RECORD * SLOTS], delay[RING * SLOTS], audio[FRAMES * SLOTS];
     uint32_t counts[SLOTS + 1];
+    uint8_t file[FILE_LEN];
     sentivolus_setup setup;
     sentivolus_bank bank;
     sentivolus_input input;
@@ -43,7 +48,7 @@ static sentivolus_design bells(void)
     return d;
 }
 
-/* Lists full of 0.5, counts of 7; noise, loud for voice 0 and about the smallest normal number for voice 1. */
+/* Lists full of 0.5, counts and a file of 7; noise, loud for voice 0 and about the smallest normal number for voice 1. */
 static void make(session *t, uint32_t code)
 {
     float *lists[] = {t->targets, t->records, t->delay};
@@ -54,6 +59,7 @@ static void make(session *t, uint32_t code)
             lists[l][i] = 0.5f;
     for (int i = 0; i <= SLOTS; i++)
         t->counts[i] = 7;
+    memset(t->file, 7, FILE_LEN);
     for (int i = 0; i < FRAMES * SLOTS; i++) {
         noise = 1664525u * noise + 1013904223u;
         t->audio[i] = ldexpf((float)(int32_t)noise, i % VOICES == 0 ? -32 : -32 - 124);
@@ -72,6 +78,16 @@ static void make(session *t, uint32_t code)
     t->input.steered = true;
     t->input.x = t->input.y = pitch;
     t->input.x_len = t->input.y_len = FRAMES * VOICES;
+}
+
+/* Lists full of NaN, and another setup and cursor: nothing that a restored bank could lean on. */
+static void spoil(session *t)
+{
+    memset(t->targets, 255, sizeof t->targets);
+    memset(t->records, 255, sizeof t->records);
+    memset(t->delay, 255, sizeof t->delay);
+    t->setup = sentivolus_new_setup(SENTIVOLUS_BUZZ_MORPH, 8000.0f, 1, 1);
+    t->bank.cursor = 5;
 }
 
 /* The session's block with its whole audio and as many counts. */
@@ -105,18 +121,30 @@ static void run(session *t, uint32_t code, unsigned mxcsr)
     sentivolus_refusal set = sentivolus_bank_set(&t->setup, &t->bank, 1, &params);
     sentivolus_refusal started = sentivolus_bank_start(&t->setup, &t->bank, 1);
     sentivolus_refusal rendered = render(t, SLOTS);
+    size_t file_len = sentivolus_file_len(&t->setup);
+    sentivolus_refusal parked = sentivolus_bank_park(&t->setup, &t->bank, t->file, file_len);
+    spoil(t);
+    sentivolus_refusal read = sentivolus_file_setup(t->file, file_len, &t->setup, NULL);
+    sentivolus_refusal restored = sentivolus_bank_restore(t->file, file_len, &t->setup, &t->bank);
     unsigned after = _mm_getcsr();
     _mm_setcsr(before);
     check((after & ~SENTIVOLUS_MXCSR_FLAGS) == (mxcsr & ~SENTIVOLUS_MXCSR_FLAGS), "the caller's MXCSR comes back", (int)mxcsr);
-    check(!opened && !set && !started && !rendered, "every call is accepted", (int)code);
+    check(!opened && !set && !started && !rendered && !parked && !read && !restored, "every call is accepted", (int)code);
+}
+
+static int same_setup(const sentivolus_setup *a, const sentivolus_setup *b)
+{
+    return a->code == b->code && a->rate == b->rate && a->reference == b->reference && a->voices == b->voices && a->channels == b->channels &&
+           a->clean == b->clean && a->table.active == b->table.active && a->table.gain == b->table.gain &&
+           !memcmp(a->table.sections, b->table.sections, sizeof a->table.sections);
 }
 
 static int same(const session *a, const session *b)
 {
     return !memcmp(a->targets, b->targets, sizeof a->targets) && !memcmp(a->records, b->records, sizeof a->records) &&
            !memcmp(a->delay, b->delay, sizeof a->delay) && !memcmp(a->audio, b->audio, sizeof a->audio) &&
-           !memcmp(a->counts, b->counts, sizeof a->counts) &&
-           !memcmp(a->setup.table.sections, b->setup.table.sections, sizeof a->setup.table.sections) && a->bank.cursor == b->bank.cursor;
+           !memcmp(a->counts, b->counts, sizeof a->counts) && !memcmp(a->file, b->file, FILE_LEN) && same_setup(&a->setup, &b->setup) &&
+           a->bank.cursor == b->bank.cursor;
 }
 
 /* The archive's block by itself, in the float environment of `mxcsr`. */
@@ -162,13 +190,13 @@ static void float_environments(void)
 static void refusals(void)
 {
     static const char *const words[] = {"accepted", "rate", "tuning", "polyphony", "layout", "structure", "store",
-                                        "voice", "knob", "frames", "buffer", "point", "unknown"};
+                                        "voice", "knob", "frames", "buffer", "point", "damaged", "blocks", "unknown"};
     sentivolus_design design = sentivolus_new_design();
     sentivolus_params p = sentivolus_default_params();
     sentivolus_bank none = {NULL, 0, NULL, 0, NULL, 0, 0};
     float out[5] = {1, 2, 3, 4, 5};
     session *t = &other;
-    for (uint32_t n = 0; n < 13; n++)
+    for (uint32_t n = 0; n < 15; n++)
         check(!strcmp(sentivolus_refusal_word(n), words[n]), "a refusal's word", (int)n);
     for (uint32_t n = 1; n <= 5; n++) {
         make(t, 9);
@@ -182,15 +210,20 @@ static void refusals(void)
         check(sentivolus_targets_len(&t->setup) + sentivolus_records_len(&t->setup) + sentivolus_delay_len(&t->setup) == 0, "no lengths", (int)n);
         check(sentivolus_counts_len(&t->setup) == 0, "no counts", (int)n);
         check(render(t, SLOTS) == n && t->counts[0] == 7, "block's refusal", (int)n);
+        check(sentivolus_file_len(&t->setup) == 0, "no file", (int)n);
+        check(sentivolus_bank_park(&t->setup, &none, t->file, 0) == n, "park's refusal", (int)n);
     }
     make(t, 9);
     check(sentivolus_setup_check(&t->setup) == SENTIVOLUS_ACCEPTED, "a right setup", 0);
     check(sentivolus_targets_len(&t->setup) == 20 && sentivolus_records_len(&t->setup) == 120 && sentivolus_delay_len(&t->setup) == 4 * RING &&
-          sentivolus_counts_len(&t->setup) == SLOTS, "its lengths", 0);
+          sentivolus_counts_len(&t->setup) == SLOTS && sentivolus_file_len(&t->setup) == FILE_LEN, "its lengths", 0);
     t->bank.delay_len--;
     check(sentivolus_bank_open(&t->setup, &t->bank) == SENTIVOLUS_REFUSED_STORE, "a short list", 6);
     check(render(t, SLOTS) == SENTIVOLUS_REFUSED_STORE, "a block's short list", 6);
+    check(sentivolus_bank_park(&t->setup, &t->bank, t->file, FILE_LEN) == SENTIVOLUS_REFUSED_STORE, "a short list to park", 6);
     t->bank.delay_len++;
+    check(sentivolus_bank_park(&t->setup, &t->bank, t->file, FILE_LEN - 1) == SENTIVOLUS_REFUSED_STORE, "a short file", 6);
+    check(sentivolus_bank_park(&t->setup, &t->bank, NULL, 0) == SENTIVOLUS_REFUSED_STORE, "no file at NULL", 6);
     check(sentivolus_bank_open(&t->setup, &none) == SENTIVOLUS_REFUSED_STORE, "empty lists at NULL", 6);
     check(sentivolus_bank_start(&t->setup, &t->bank, VOICES) == SENTIVOLUS_REFUSED_VOICE, "a voice too many", 7);
     p.mix = NAN;
@@ -275,6 +308,221 @@ static void meter(void)
     check(!sentivolus_over(69, NAN) && sentivolus_over(69, INFINITY), "nor is a NaN", 0);
 }
 
+/* ---- parking */
+
+static uint32_t word_of(float x)
+{
+    uint32_t word;
+    memcpy(&word, &x, sizeof word);
+    return isnan(x) ? 0x7FC00000u : word;
+}
+
+static uint32_t get_word(const uint8_t *at)
+{
+    return at[0] | (uint32_t)at[1] << 8 | (uint32_t)at[2] << 16 | (uint32_t)at[3] << 24;
+}
+
+/* Writes a word of a block, and the last one so that the sum stays. */
+static void put_word(uint8_t *block, size_t word, uint32_t value)
+{
+    uint8_t *last = block + BYTES - 4;
+    uint32_t sum = get_word(last) + get_word(block + 4 * word) - value;
+    for (int i = 0; i < 4; i++) {
+        block[4 * word + i] = (uint8_t)(value >> 8 * i);
+        last[i] = (uint8_t)(sum >> 8 * i);
+    }
+}
+
+/* Writes the blocks of a kind: `each` words a row, in parts. Answers where the next goes. */
+static uint8_t *put_rows(uint8_t *file, uint32_t kind, const uint32_t *words, size_t rows, size_t each)
+{
+    for (size_t row = 0; row < rows; row++)
+        for (size_t i = 0; i < each; i++) {
+            if (i % HELD == 0) {
+                memset(file, 0, BYTES);
+                put_word(file, 0, kind | (uint32_t)row << 8 | (uint32_t)(i / HELD) << 16);
+                file += BYTES;
+            }
+            put_word(file - BYTES, 1 + i % HELD, words[row * each + i]);
+        }
+    return file;
+}
+
+static uint8_t *put_numbers(uint8_t *file, uint32_t kind, const float *numbers, size_t rows, size_t each)
+{
+    static uint32_t words[RING * SLOTS];
+    for (size_t i = 0; i < rows * each; i++)
+        words[i] = word_of(numbers[i]);
+    return put_rows(file, kind, words, rows, each);
+}
+
+/* A session's file as the header lays it out. */
+static void put_file(const session *t, uint8_t file[FILE_LEN])
+{
+    const sentivolus_setup *s = &t->setup;
+    uint32_t words[9 + SENTIVOLUS_SECTIONS + 1] = {s->code, (uint32_t)s->voices, (uint32_t)s->channels, s->clean, word_of(s->rate), word_of(s->reference),
+                                                   (uint32_t)t->bank.cursor, (uint32_t)(t->bank.cursor >> 32), s->table.active};
+    for (size_t i = 0; i < SENTIVOLUS_SECTIONS; i++)
+        words[9 + i] = word_of(s->table.sections[i]);
+    words[9 + SENTIVOLUS_SECTIONS] = word_of(s->table.gain);
+    file = put_rows(file, 1, words, 1, 9 + SENTIVOLUS_SECTIONS + 1);
+    file = put_numbers(file, 2, t->targets, VOICES, SENTIVOLUS_TARGETS);
+    file = put_numbers(file, 3, t->records, SLOTS, SENTIVOLUS_RECORD);
+    put_numbers(file, 4, t->delay, SLOTS, RING);
+}
+
+static uint8_t file[FILE_LEN];
+
+/* A bank is parked and goes on, restored in other lists: no bit differs from the bank that was not. */
+static void parking(void)
+{
+    sentivolus_design design = bells();
+    session *t = &usual, *u = &other;
+    for (uint32_t code = 1; code <= 12; code++) {
+        size_t cursor = 0;
+        raw_block(t, code, SENTIVOLUS_MXCSR);
+        t->setup.table = sentivolus_design_table(&design);
+        t->setup.table.active = 1000 + code;
+        t->setup.table.gain = 0.75f;
+        t->setup.reference = 441.0f;
+        t->setup.clean = code % 2 == 0;
+        t->bank.cursor = ((size_t)code << 32) - 100;
+        put_file(t, file);
+        check(!sentivolus_bank_park(&t->setup, &t->bank, t->file, FILE_LEN) && !memcmp(t->file, file, FILE_LEN), "the file's layout", (int)code);
+
+        make(u, code);
+        memcpy(u->audio, t->audio, sizeof u->audio);
+        memcpy(u->counts, t->counts, sizeof u->counts);
+        spoil(u);
+        check(!sentivolus_file_setup(t->file, FILE_LEN, &u->setup, &cursor) && same_setup(&t->setup, &u->setup) && cursor == t->bank.cursor,
+              "the setup of a file", (int)code);
+        spoil(u);
+        check(!sentivolus_bank_restore(t->file, FILE_LEN, &u->setup, &u->bank) && !sentivolus_bank_park(&u->setup, &u->bank, u->file, FILE_LEN) &&
+              same(t, u), "the bank of a file", (int)code);
+        spoil(u);
+        for (size_t b = 0; b < BLOCKS; b++)
+            memcpy(file + BYTES * b, t->file + BYTES * (BLOCKS - 1 - b), BYTES);
+        put_word(file + BYTES * (BLOCKS - 3), HELD, 9); /* unused: voice 0's targets are ten */
+        check(!sentivolus_bank_restore(file, FILE_LEN, &u->setup, &u->bank) && same(t, u), "from the last block to the first", (int)code);
+        check(!render(t, SLOTS) && !render(u, SLOTS) && same(t, u), "the next block of both", (int)code);
+    }
+}
+
+/* One voice in stereo: voices and channels are not each other. */
+static void one_voice(void)
+{
+    session *t = &usual;
+    sentivolus_setup s;
+    make(t, SENTIVOLUS_COMB2);
+    t->setup.voices = 1;
+    t->bank.targets_len /= VOICES;
+    t->bank.records_len /= VOICES;
+    t->bank.delay_len /= VOICES;
+    size_t length = sentivolus_file_len(&t->setup);
+    check(length == BYTES * (2 + 1 + CHANNELS + CHANNELS * ((RING + HELD - 1) / HELD)), "the file of one voice", 0);
+    check(!sentivolus_bank_park(&t->setup, &t->bank, t->file, length) && t->file[8] == 1 && t->file[12] == CHANNELS, "one voice parked", 0);
+    check(!sentivolus_file_setup(t->file, length, &s, NULL) && s.voices == 1 && s.channels == CHANNELS, "the setup of its file", 0);
+    check(!sentivolus_bank_restore(t->file, length, &t->setup, &t->bank) && t->setup.voices == 1 && t->setup.channels == CHANNELS, "one voice restored", 0);
+}
+
+/* NaNs of every kind, signalling ones too, in every float environment. */
+static void parked_nans(void)
+{
+    static const uint32_t nans[] = {0x7F800001, 0xFFC12345, 0x7FC00000, 0xFFFFFFFF};
+    session *t = &usual, *u = &other;
+    sentivolus_setup s = sentivolus_new_setup(SENTIVOLUS_COMB2, NAN, VOICES, CHANNELS);
+    for (size_t m = 0; m < sizeof modes / sizeof modes[0]; m++) {
+        make(t, SENTIVOLUS_COMB2);
+        make(u, SENTIVOLUS_COMB2);
+        memcpy(t->targets + 3, nans, sizeof nans);
+        memcpy(t->records + 40, nans, sizeof nans);
+        memcpy(t->delay + RING, nans, sizeof nans);
+        memcpy(t->setup.table.sections + 150, nans, sizeof nans);
+        memcpy(&t->setup.table.gain, nans, sizeof t->setup.table.gain);
+        put_file(t, file);
+        memcpy(u->file, file, FILE_LEN);
+        put_word(u->file + 2 * BYTES, 1 + 3, nans[0]);
+        unsigned before = _mm_getcsr();
+        _mm_setcsr(modes[m]);
+        sentivolus_refusal parked = sentivolus_bank_park(&t->setup, &t->bank, t->file, FILE_LEN);
+        sentivolus_refusal restored = sentivolus_bank_restore(u->file, FILE_LEN, &u->setup, &u->bank);
+        put_word(u->file, 5, nans[0]);
+        size_t length = sentivolus_file_len(&s);
+        sentivolus_refusal not_parked = sentivolus_bank_park(&s, &t->bank, t->file, FILE_LEN);
+        sentivolus_refusal not_read = sentivolus_file_setup(u->file, FILE_LEN, &s, NULL);
+        sentivolus_refusal not_restored = sentivolus_bank_restore(u->file, FILE_LEN, &s, &t->bank);
+        _mm_setcsr(before);
+        check(!length && not_parked == SENTIVOLUS_REFUSED_RATE && not_read == SENTIVOLUS_REFUSED_RATE && not_restored == SENTIVOLUS_REFUSED_RATE,
+              "a NaN rate is refused and not trapped", (int)modes[m]);
+        check(!parked && !memcmp(t->file, file, FILE_LEN), "a NaN is parked as 7fc00000", (int)modes[m]);
+        check(!restored && isnan(u->targets[3]), "any NaN is restored as one", (int)modes[m]);
+        put_file(u, u->file);
+        check(!memcmp(u->file, file, FILE_LEN), "a bank with NaNs comes back", (int)modes[m]);
+    }
+}
+
+/* Faults of a file in the order of their checks, each a word of a block; after them lists that are too short. */
+static const struct fault {
+    size_t block, word;
+    uint32_t value;
+    sentivolus_refusal refusal;
+} faults[] = {
+    {BLOCKS - 1, 0, 1, SENTIVOLUS_REFUSED_BLOCKS},          /* kind 1 part 0 doubled */
+    {1, 0, 0x20001, SENTIVOLUS_REFUSED_BLOCKS},             /* kind 1 part 1 missing */
+    {0, 4, 2, SENTIVOLUS_REFUSED_BLOCKS},                   /* clean */
+    {0, 5, 0, SENTIVOLUS_REFUSED_RATE},
+    {0, 6, 0x7FC00000, SENTIVOLUS_REFUSED_TUNING},
+    {0, 2, 0xFFFFFFFF, SENTIVOLUS_REFUSED_POLYPHONY},
+    {0, 3, 3, SENTIVOLUS_REFUSED_LAYOUT},
+    {0, 1, 13, SENTIVOLUS_REFUSED_STRUCTURE},
+    {BLOCKS - 1, 0, 3, SENTIVOLUS_REFUSED_BLOCKS},          /* slot 0's record doubled */
+    {BLOCKS - 1, 0, 0x420304, SENTIVOLUS_REFUSED_BLOCKS}    /* a ring's part 66, unknown */
+};
+
+/* The archive's restore by itself, onto the session's own setup and cursor. */
+static uint32_t raw_restore(session *t, size_t length)
+{
+    sentivolus_setup *s = &t->setup;
+    sentivolus_bank *b = &t->bank;
+    return sentivolus_restore(t->file, length, b->targets, b->targets_len, b->records, b->records_len, b->delay, b->delay_len,
+                              &s->code, &s->rate, &s->reference, &s->voices, &s->channels, &s->clean,
+                              &s->table.active, s->table.sections, &s->table.gain, &b->cursor);
+}
+
+/* A wrong length, a wrong sum; then all the faults above, and one less each time, the first mended; then the lists alone. */
+static void file_refusals(void)
+{
+    static session kept;
+    const size_t count = sizeof faults / sizeof faults[0];
+    session *t = &usual, *u = &other;
+    raw_block(t, SENTIVOLUS_COMB2, SENTIVOLUS_MXCSR);
+    check(!sentivolus_bank_park(&t->setup, &t->bank, t->file, FILE_LEN), "a right file", 0);
+    make(u, 1);
+    for (size_t first = 0; first <= count + 2; first++) {
+        size_t length = first == 0 ? FILE_LEN - 1 : FILE_LEN, cursor = 77;
+        sentivolus_refusal refusal = first < 2 ? SENTIVOLUS_REFUSED_DAMAGED : first < count + 2 ? faults[first - 2].refusal : SENTIVOLUS_REFUSED_STORE;
+        sentivolus_refusal without_6 = refusal == SENTIVOLUS_REFUSED_STORE ? SENTIVOLUS_ACCEPTED : refusal;
+        sentivolus_setup s = u->setup;
+        memcpy(u->file, t->file, FILE_LEN);
+        for (size_t i = count; i-- > 0;)
+            if (first <= i + 2)
+                put_word(u->file + BYTES * faults[i].block, faults[i].word, faults[i].value);
+        if (first == 1)
+            u->file[BYTES * 7] ^= 1;
+        u->bank.delay_len = RING * SLOTS - 1;
+        memcpy(&kept, u, sizeof kept);
+        check(sentivolus_bank_restore(u->file, length, &u->setup, &u->bank) == refusal, "restore's refusal", (int)first);
+        check(raw_restore(u, length) == refusal && !memcmp(u, &kept, sizeof kept), "a refused restore changes nothing", (int)first);
+        check(sentivolus_file_setup(u->file, length, &s, &cursor) == without_6, "file_setup's refusal", (int)first);
+        check(same_setup(&s, without_6 ? &u->setup : &t->setup) && cursor == (without_6 ? 77 : t->bank.cursor), "what file_setup leaves", (int)first);
+    }
+    u->bank.delay_len++;
+    check(!sentivolus_bank_restore(u->file, FILE_LEN, &u->setup, &u->bank), "all faults mended", 0);
+    check(sentivolus_bank_restore(u->file, FILE_LEN - BYTES, &u->setup, &u->bank) == SENTIVOLUS_REFUSED_BLOCKS, "a block less", 13);
+    check(sentivolus_bank_restore(NULL, 0, &u->setup, &u->bank) == SENTIVOLUS_REFUSED_BLOCKS, "an empty file at NULL", 13);
+    check(!memcmp(t->delay, u->delay, sizeof t->delay) && same_setup(&t->setup, &u->setup), "the bank stays", 0);
+}
+
 /* ---- the stack: what the calls leave untouched of a painted one */
 
 enum { STACK = 1 << 18, PAINT = 0x5A };
@@ -283,13 +531,20 @@ static unsigned char stack[STACK] __attribute__((aligned(4096)));
 
 static sentivolus_design design;
 
+/* What a sitting does beside the twelve codes: nothing, or reads the file. */
+enum { IDLE = 0, FILE_SETUP = 13, RESTORE = 14 };
+
 static void *sitting(void *code)
 {
     session *t = &usual;
     uint32_t c = *(const uint32_t *)code;
     sentivolus_params p = loud();
     float out[5];
-    if (c) {
+    if (c == FILE_SETUP)
+        sentivolus_file_setup(t->file, FILE_LEN, &t->setup, NULL);
+    else if (c == RESTORE)
+        sentivolus_bank_restore(t->file, FILE_LEN, &t->setup, &t->bank);
+    else if (c != IDLE) {
         t->setup.table = sentivolus_design_table(&design);
         sentivolus_design_section(&design, 7, 0.5f, 0.5f, out);
         t->setup.code = c;
@@ -297,6 +552,7 @@ static void *sitting(void *code)
         sentivolus_bank_set(&t->setup, &t->bank, 1, &p);
         sentivolus_bank_start(&t->setup, &t->bank, 1);
         render(t, SLOTS);
+        sentivolus_bank_park(&t->setup, &t->bank, t->file, sentivolus_file_len(&t->setup));
     }
     return NULL;
 }
@@ -317,16 +573,21 @@ static long stack_used(uint32_t code)
 
 static void stacks(void)
 {
-    long idle, most = 0;
+    long idle, most = 0, reading = 0;
     make(&usual, 1);
     design = bells();
-    idle = stack_used(0);
+    idle = stack_used(IDLE);
     for (uint32_t code = 1; code <= 12; code++) {
         long used = stack_used(code) - idle;
         most = used > most ? used : most;
     }
+    for (uint32_t what = FILE_SETUP; what <= RESTORE; what++) {
+        long used = stack_used(what) - idle;
+        reading = used > reading ? used : reading;
+    }
     check(most > 1024 && most < 8192, "the calls take less than 8 KiB of stack", (int)most);
-    printf("c: %ld bytes of stack\n", most);
+    check(reading > 1024 && reading < 65536, "reading a parked file less than 64 KiB", (int)reading);
+    printf("c: %ld bytes of stack, %ld to read a parked file\n", most, reading);
 }
 
 int main(void)
@@ -337,6 +598,10 @@ int main(void)
     refusals();
     arguments();
     meter();
+    parking();
+    one_voice();
+    parked_nans();
+    file_refusals();
     stacks();
     printf("c: %d checks, %d failed\n", checks, failures);
     return failures != 0;

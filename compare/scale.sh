@@ -1,5 +1,5 @@
 #!/usr/bin/env bash
-# scale.sh: random scenarios and leaves from fresh seeds, the proved library beside the published Rust. `scale.sh --help` lists the options.
+# scale.sh: random scenarios, leaves and parked files from fresh seeds, the proved library beside the oracle. `scale.sh --help` lists the options.
 set -eu
 . "$(dirname "$0")/common.sh"
 usage="usage: scale.sh [--seed N] [--samples N] [--rows N] [--oracle FOLDER] [--help]

@@ -1,4 +1,5 @@
-//! ns a voice-sample (voice x channel x frame) of the proved library and of the Rust's scalar lane, in one run, best of several.
+//! ns a voice-sample (voice x channel x frame) of the proved library and of the Rust's scalar lane, in one run, best of several; and how fast banks are
+//! parked and restored.
 //! Built inside the assembled oracle, so that the Rust's private `extended::dispatch` is in reach.
 use super::*;
 use std::time::Instant;
@@ -14,6 +15,14 @@ unsafe extern "C" {
     fn sentivolus_start(code: u32, rate: f32, reference: f32, voices: usize, channels: usize, clean: bool, active: u32, sections: *const f32,
         gain: f32, targets: *const f32, targets_len: usize, records: *mut f32, records_len: usize, delay: *mut f32, delay_len: usize,
         voice: usize) -> u32;
+    fn sentivolus_park_len(code: u32, rate: f32, reference: f32, voices: usize, channels: usize, clean: bool, active: u32, sections: *const f32,
+        gain: f32) -> usize;
+    fn sentivolus_park(code: u32, rate: f32, reference: f32, voices: usize, channels: usize, clean: bool, active: u32, sections: *const f32,
+        gain: f32, cursor: usize, targets: *const f32, targets_len: usize, records: *const f32, records_len: usize,
+        delay: *const f32, delay_len: usize, file: *mut u8, file_len: usize) -> u32;
+    fn sentivolus_restore(file: *const u8, file_len: usize, targets: *mut f32, targets_len: usize, records: *mut f32, records_len: usize,
+        delay: *mut f32, delay_len: usize, code: *mut u32, rate: *mut f32, reference: *mut f32, voices: *mut usize, channels: *mut usize,
+        clean: *mut bool, active: *mut u32, sections: *mut f32, gain: *mut f32, cursor: *mut usize) -> u32;
     fn sentivolus_openings(t: *mut [u8; 1024]);
     fn sentivolus_root(x: f32, t: *const [u8; 1024]) -> f32;
     fn sentivolus_saturation_gain(x: f32, inv_a: f32, t: *const [u8; 1024]) -> f32;
@@ -235,6 +244,77 @@ fn opening(rate: f32) -> (f64, f64) {
     best
 }
 
+/// The bytes that a bank is parked in.
+fn park_len(e: &Engine, sections: &[f32]) -> usize {
+    let s = e.setup;
+    unsafe {
+        sentivolus_park_len(s.code, f(s.rate), f(s.reference), s.voices as usize, s.channels as usize, s.clean, e.table.active as u32,
+            sections.as_ptr(), e.table.gain)
+    }
+}
+
+fn park(e: &Engine, sections: &[f32], file: &mut [u8]) {
+    let s = e.setup;
+    let refused = unsafe {
+        sentivolus_park(s.code, f(s.rate), f(s.reference), s.voices as usize, s.channels as usize, s.clean, e.table.active as u32,
+            sections.as_ptr(), e.table.gain, e.cursor, e.t.as_ptr(), e.t.len(), e.r.as_ptr(), e.r.len(), e.d.as_ptr(), e.d.len(),
+            file.as_mut_ptr(), file.len())
+    };
+    assert_eq!(refused, 0);
+}
+
+/// Restores the lists and the cursor; the setup that comes with them is left.
+fn restore(e: &mut Engine, file: &[u8]) {
+    let (mut code, mut rate, mut reference, mut voices, mut channels, mut clean) = (0, 0.0, 0.0, 0, 0, false);
+    let (mut active, mut sections, mut gain) = (0, [0f32; 160], 0.0);
+    let refused = unsafe {
+        sentivolus_restore(file.as_ptr(), file.len(), e.t.as_mut_ptr(), e.t.len(), e.r.as_mut_ptr(), e.r.len(), e.d.as_mut_ptr(), e.d.len(),
+            &mut code, &mut rate, &mut reference, &mut voices, &mut channels, &mut clean, &mut active, sections.as_mut_ptr(), &mut gain,
+            &mut e.cursor)
+    };
+    assert_eq!(refused, 0);
+}
+
+/// ns of a park, of a restore, and of a restore whose blocks stand from the last to the first, taking turns; and the file's blocks.
+fn measure_parking(rate: f32, voices: usize, channels: usize, millis: u128) -> ([f64; 3], usize) {
+    let mut e = case(9, rate, voices, channels, 1, false).engine;
+    let mut r = generate::Rng::new(6);
+    e.d.iter_mut().for_each(|x| *x = r.range(-0.5, 0.5));
+    let sections = sections_of(&e);
+    let mut file = vec![0; park_len(&e, &sections)];
+    park(&e, &sections, &mut file);
+    let reversed: Vec<u8> = file.rchunks_exact(512).flatten().copied().collect();
+    let mut other = e.clone();
+    let mut best = [f64::MAX; 3];
+    let begun = Instant::now();
+    while begun.elapsed().as_millis() < millis {
+        let mut time = |i: usize, call: &mut dyn FnMut()| {
+            let t = Instant::now();
+            call();
+            best[i] = best[i].min(t.elapsed().as_nanos() as f64);
+        };
+        time(0, &mut || park(&e, &sections, &mut file));
+        other.d.fill(0.0);
+        time(1, &mut || restore(&mut other, &file));
+        assert!(other.d == e.d);
+        other.d.fill(0.0);
+        time(2, &mut || restore(&mut other, &reversed));
+        assert!(other.d == e.d);
+    }
+    (best, file.len() / 512)
+}
+
+fn parking(millis: u128) {
+    println!("Parking, code 9 (Comb2), full rings: MB/s of the file (ns a block)\n");
+    println!("| voices x channels, rate | blocks | park | restore | restore, the last block first |");
+    println!("|---|---|---|---|---|");
+    for (v, n, rate) in [(1, 1, 8000.0), (1, 1, 48000.0), (4, 2, 48000.0), (16, 2, 48000.0), (16, 2, 96000.0), (16, 2, 192000.0), (16, 2, 384000.0)] {
+        let (ns, blocks) = measure_parking(rate, v, n, millis);
+        let cells: String = ns.iter().map(|t| t / blocks as f64).map(|t| format!(" {:.0} ({t:.0}) |", 512e3 / t)).collect();
+        println!("| {v}x{n}, {rate} | {blocks} |{cells}");
+    }
+}
+
 fn grid(millis: u128) {
     println!("| code | pitch | voices x channels / frames: ours, Rust (ratio) | | | |");
     println!("|---|---|---|---|---|---|");
@@ -289,7 +369,11 @@ fn growth(millis: u128) {
 /// Every table, or the one that is named.
 pub fn main() {
     let millis = std::env::var("MILLIS").ok().and_then(|m| m.parse().ok()).unwrap_or(300);
-    if std::env::args().nth(2).as_deref() == Some("silence") { return silence(millis); }
+    match std::env::args().nth(2).as_deref() {
+        Some("silence") => return silence(millis),
+        Some("park") => return parking(millis),
+        _ => (),
+    }
     #[cfg(before)]
     return before(millis);
     #[cfg(not(before))]
@@ -305,4 +389,6 @@ fn every(millis: u128) {
     growth(millis);
     println!();
     silence(millis);
+    println!();
+    parking(millis);
 }

@@ -19,8 +19,12 @@ FILES = {
         expanders/specs/Expanders.antt poles/specs/Poles.antt combs/specs/Combs.antt kernels/specs/Kernels.antt run/specs/Run.antt
         """,
     "the bank": """
-        voices/specs/Calls.antt voices/specs/Feed.antt slots/specs/Engine.antt checks/specs/Setup.antt checks/specs/Checks.antt
-        bank/specs/Bank.antt bank/specs/Demand3.antt
+        voices/specs/Calls.antt voices/specs/Feed.antt setups/specs/Setup.antt slots/specs/Engine.antt checks/specs/Setup.antt
+        checks/specs/Checks.antt bank/specs/Bank.antt bank/specs/Demand3.antt
+        """,
+    "a parked file": """
+        file_words/specs/Words.antt blocks/specs/Blocks.antt places/specs/Places.antt rows/specs/Rows.antt files/specs/File.antt
+        setups/specs/Parked.antt parking/specs/Parking.antt
         """,
     "what C links": "sentivolus/specs/Design.antt sentivolus/specs/Calls.antt",
 }

@@ -1,9 +1,11 @@
 //! Runs of the proved library beside the published Rust. `compare --help` lists the commands.
 
 mod check;
+mod file;
 mod leaf;
 mod numbers;
 mod oracle;
+mod parked;
 mod replay;
 mod roots;
 mod scale;
@@ -15,11 +17,12 @@ use std::io::{Read, Write};
 use std::process::ExitCode;
 
 const HELP: &str = "\
-usage: compare run | leaf | check run FILE | check leaf FILE | scale ORACLE [OPTION..] | roots
+usage: compare run | leaf | file | check run FILE | check leaf FILE | check file FILE | scale ORACLE [OPTION..] | roots
   run    a scenario file from standard input, every answer recomputed by the proved library
   leaf   the same for a leaves file
-  check  a scenario or leaves file against its answers recomputed
-  scale  random scenarios and leaves of the oracle's program, from fresh seeds; `compare scale --help` lists the options
+  file   the same for a file of cases on parked files
+  check  a file of one of these kinds against its answers recomputed
+  scale  random scenarios, leaves and parked files of the oracle's program, from fresh seeds; `compare scale --help` lists the options
   roots  every f32 of the root against the machine's square root
 Exit status: 0, 1 where an answer differs, 2 where the command line or a line of the file cannot be read.";
 
@@ -41,6 +44,7 @@ fn replay_of(kind: &str) -> Option<replay::Replay> {
     match kind {
         "run" => Some(scenario::replay),
         "leaf" => Some(leaf::replay),
+        "file" => Some(file::replay),
         _ => None,
     }
 }
@@ -63,7 +67,7 @@ fn command(args: &[&str]) -> Result<String, Failure> {
         }
         ["check", kind, path] => match replay_of(kind) {
             Some(replay) => check::run(path, replay).map(|line| line + "\n"),
-            None => Err(Failure::Usage(format!("{kind} is neither run nor leaf"), HELP)),
+            None => Err(Failure::Usage(format!("{kind} is none of run, leaf and file"), HELP)),
         },
         ["roots"] => if roots::run() { Ok(String::new()) } else { Err(Failure::Differs("the root differs".into())) },
         [kind] => match replay_of(kind) {

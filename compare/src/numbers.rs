@@ -22,5 +22,14 @@ pub fn runs(words: &[u32]) -> String {
     out
 }
 
-/// A refusal's number, 1 to 11.
+/// Two sums over words, mod 2^32, both from 0: s1 += w + 1, then s2 += s1.
+pub fn sums(words: &[u32]) -> String {
+    let (s1, s2) = words.iter().fold((0u32, 0u32), |(a, b), &w| { let a = a.wrapping_add(w).wrapping_add(1); (a, b.wrapping_add(a)) });
+    format!(" {s1:08x} {s2:08x}")
+}
+
+/// A refusal's number, 1 to 13.
 pub fn number(r: Refusal) -> u32 { r.number() }
+
+/// The answer of a refused call, with what is wrong beside it.
+pub fn refused(r: Refusal, wrong: &str) -> String { format!("= refused {}{wrong}\n", number(r)) }

@@ -10,10 +10,12 @@ pub struct Oracle {
     pub scenarios: usize,
     /// Rows that a leaves file has.
     pub rows: usize,
+    /// Cases to ask for in a file on parked files.
+    pub cases: usize,
 }
 
 /// The requests in force, by the last one's number: the program's STAGE. The files that it writes then are those that this replays.
-const STAGE: &str = "11";
+const STAGE: &str = "12";
 
 /// How many random inputs of a leaf `leafgen` is asked for, and the rows that it then writes at this stage.
 const INPUTS: &str = "240";
@@ -52,6 +54,11 @@ impl Oracle {
         self.file(&["leafgen", &seed.to_string(), INPUTS], |text| whole_leaves(text, self.rows))
     }
 
+    pub fn parked(&self, seed: u64) -> Result<String, String> {
+        let n = self.cases;
+        self.file(&["filesgen", &seed.to_string(), &n.to_string()], |text| whole_cases(text, n))
+    }
+
     /// A scenario's calls with the program's answers; nothing where it cannot run them.
     pub fn answered(&self, calls: &str) -> Option<String> { self.output(&["run"], Some(calls), Stdio::null()).ok() }
 }
@@ -64,6 +71,14 @@ fn whole_scenarios(text: &str, n: usize) -> Result<(), String> {
     if found != n { return Err(format!("it has {found} scenarios instead of {n}")); }
     let last = Lines::of(text).last().map_or("", |w| first_word(w.line));
     if last == "d" { Ok(()) } else { Err(format!("it ends with a line {last:?} instead of a dump")) }
+}
+
+/// As many cases as were asked for, the last with an answer. A stop within the last case after another answer or an image is not seen.
+fn whole_cases(text: &str, n: usize) -> Result<(), String> {
+    let found = Lines::of(text).filter(|w| first_word(w.line) == "case").count();
+    if found != n { return Err(format!("it has {found} cases instead of {n}")); }
+    let last = Lines::of(text).last().map_or("", |w| first_word(w.line));
+    if matches!(last, "=" | "f" | "h" | "d" | "dh") { Ok(()) } else { Err(format!("it ends with a line {last:?} instead of an answer")) }
 }
 
 /// As many rows as `leafgen` writes whatever the seed, and every leaf among them.

@@ -1,6 +1,6 @@
 //! What a file's replay gives, and where two texts differ first.
 
-use crate::words::Wrong;
+use crate::words::{Lines, Words, Wrong};
 use std::fmt;
 
 /// The file again with every answer recomputed.
@@ -16,6 +16,14 @@ impl Replayed {
     pub fn copy(&mut self, line: &str) {
         self.text += line;
         self.text.push('\n');
+    }
+
+    /// The next line, which has to be there with this first word, copied.
+    pub fn take<'a>(&mut self, lines: &mut Lines<'a>, expected: &str, name: &str) -> Result<Words<'a>, Wrong> {
+        let mut w = lines.wanted(expected)?;
+        self.copy(w.line);
+        w.one_of(expected, &[name])?;
+        Ok(w)
     }
 
     pub fn answer(&mut self, lines: &str) {

@@ -1,19 +1,20 @@
-//! Random scenarios at scale: the oracle's program writes them with the Rust's answers, the proved library recomputes them.
+//! Random scenarios, leaves and parked files at scale: the oracle's program writes them with its answers, the proved library recomputes them.
 
 use crate::oracle::{Oracle, ROWS};
-use crate::replay::difference;
+use crate::replay::{difference, Replay};
 use crate::words::{decimal, Lines};
-use crate::{leaf, scenario};
+use crate::{file, leaf, scenario};
 use std::time::{Instant, SystemTime, UNIX_EPOCH};
 
 pub const HELP: &str = "\
-usage: compare scale ORACLE [--seed N] [--samples N] [--scenarios N] [--rows N]
-random scenarios and leaves of the oracle's program ORACLE, which is asked for `gen SEED N` and `leafgen SEED N`, with STAGE in its environment, until
-enough is compared
+usage: compare scale ORACLE [--seed N] [--samples N] [--scenarios N] [--rows N] [--cases N]
+random scenarios, leaves and parked files of the oracle's program ORACLE, which is asked for `gen SEED N`, `leafgen SEED N` and `filesgen SEED N`, with
+STAGE in its environment, until enough is compared
   --seed N       the first file's seed (from the clock where it is not given); the others follow from it
   --samples N    voice-samples to compare (10000000)
   --scenarios N  scenarios to ask for in a file (396); the last has to end with a dump
   --rows N       rows that a leaves file has (5978)
+  --cases N      cases to ask for in a file on parked files (120)
 Exit status 1 where an answer differs, or the oracle fails or stops early.";
 
 pub struct Options {
@@ -25,7 +26,7 @@ pub struct Options {
 impl Options {
     pub fn of(args: &[&str]) -> Result<Options, String> {
         let seed = SystemTime::now().duration_since(UNIX_EPOCH).map_or(1, |d| d.as_nanos() as u64 | 1);
-        let mut o = Options { oracle: Oracle { program: String::new(), scenarios: 396, rows: ROWS }, seed, samples: 10_000_000 };
+        let mut o = Options { oracle: Oracle { program: String::new(), scenarios: 396, rows: ROWS, cases: 120 }, seed, samples: 10_000_000 };
         let mut args = args.iter().copied();
         while let Some(arg) = args.next() {
             match arg {
@@ -33,6 +34,7 @@ impl Options {
                 "--samples" => o.samples = number(arg, args.next(), 1)?,
                 "--scenarios" => o.oracle.scenarios = number(arg, args.next(), 1)?,
                 "--rows" => o.oracle.rows = number(arg, args.next(), 1)?,
+                "--cases" => o.oracle.cases = number(arg, args.next(), 1)?,
                 _ if arg.starts_with('-') => return Err(format!("{arg} is no option")),
                 _ if !o.oracle.program.is_empty() => return Err(format!("{arg} is one word too many")),
                 _ => o.oracle.program = arg.to_owned(),
@@ -115,26 +117,28 @@ fn compare_scenarios(oracle: &Oracle, seed: u64) -> Result<u64, String> {
     Ok(ours.samples)
 }
 
-/// The rows of one file of leaves.
-fn compare_leaves(oracle: &Oracle, seed: u64) -> Result<usize, String> {
-    let theirs = oracle.leaves(seed)?;
-    let ours = leaf::replay(&theirs).map_err(|e| format!("seed {seed}: the leaves cannot be read: {e}"))?;
-    match difference(&theirs, &ours.text) {
-        Some(d) => Err(format!("seed {seed}: the leaves differ at {d}")),
+/// The answers of one file of leaves or of parked files.
+fn compare_answers(what: &str, theirs: &str, replay: Replay) -> Result<usize, String> {
+    let ours = replay(theirs).map_err(|e| format!("the {what} cannot be read: {e}"))?;
+    match difference(theirs, &ours.text) {
+        Some(d) => Err(format!("the {what} differ at {d}")),
         None => Ok(ours.answers),
     }
 }
 
 pub fn run(o: &Options) -> Result<(), String> {
     let begun = Instant::now();
-    let (mut seed, mut done, mut leaves, mut files) = (o.seed, 0u64, 0usize, 0u64);
+    let (mut seed, mut done, mut leaves, mut parked, mut files) = (o.seed, 0u64, 0usize, 0usize, 0u64);
     println!("comparing with {}, first seed {seed}", o.oracle.program);
     while done < o.samples {
         done += compare_scenarios(&o.oracle, seed)?;
-        leaves += compare_leaves(&o.oracle, seed)?;
+        let seeded = |e: String| format!("seed {seed}: {e}");
+        leaves += compare_answers("leaves", &o.oracle.leaves(seed)?, leaf::replay).map_err(seeded)?;
+        parked += compare_answers("parked files", &o.oracle.parked(seed)?, file::replay).map_err(seeded)?;
         files += 1;
         if files % 5 == 0 || done >= o.samples {
-            println!("{files} files, {done} voice-samples, {leaves} leaves, {:.0} s: 0 differences", begun.elapsed().as_secs_f64());
+            let seconds = begun.elapsed().as_secs_f64();
+            println!("{files} files, {done} voice-samples, {leaves} leaves, {parked} calls on parked files, {seconds:.0} s: 0 differences");
         }
         seed = seed.wrapping_mul(6364136223846793005).wrapping_add(1442695040888963407) | 1;
     }

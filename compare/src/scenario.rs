@@ -1,6 +1,7 @@
 //! Scenario files: calls on a bank with their answers. The calls are copied, the answers recomputed.
 
-use crate::numbers::{answers, number, runs};
+use crate::numbers::{answers, canonical, refused, runs, sums};
+use crate::parked;
 use crate::replay::Replayed;
 use crate::words::{quoted, Lines, Words, Wrong};
 use sentivolus::{Refusal, Setup, Table, VoiceParams};
@@ -11,7 +12,7 @@ const BEFORE: u32 = 7;
 /// The most slots of a bank. A setup that asks for more is refused before counts are measured.
 const SLOTS: usize = 32;
 
-/// The lent lists, the setup handed to the next call, the cursor, and the lengths that `lend` and `counts` lines ask for.
+/// The lent lists, the setup handed to the next call, the cursor, the lengths that `lend` and `counts` lines ask for, and the current parked file.
 struct Bank {
     setup: Setup,
     targets: Vec<f32>,
@@ -20,6 +21,7 @@ struct Bank {
     cursor: usize,
     lend: Option<[usize; 3]>,
     counts: Option<usize>,
+    file: Vec<u8>,
 }
 
 /// The lists as a call is lent them: the bank's own, or copies at the lengths of a `lend` line.
@@ -40,7 +42,7 @@ struct Asked {
 impl Bank {
     fn new() -> Self {
         let setup = Setup { code: 0, rate: 0.0, reference: 0.0, voices: 0, channels: 0, clean: false, table: Table::default() };
-        Bank { setup, targets: vec![], records: vec![], delay: vec![], cursor: 0, lend: None, counts: None }
+        Bank { setup, targets: vec![], records: vec![], delay: vec![], cursor: 0, lend: None, counts: None, file: vec![] }
     }
 
     fn take_setup(&mut self, w: &mut Words) -> Result<(), Wrong> {
@@ -112,7 +114,7 @@ impl Bank {
             Err(r) => {
                 let heard = if audio.iter().zip(a).all(|(v, b)| v.to_bits() == b.to_bits()) { "" } else { " and the audio is changed" };
                 let counted = if counts.iter().all(|&n| n == BEFORE) { "" } else { " and the counts are changed" };
-                (format!("= refused {}{heard}{counted}\n", number(r)), 0)
+                (refused(r, &format!("{heard}{counted}")), 0)
             }
             Ok((cursor, rendered)) => {
                 self.cursor = cursor;
@@ -120,6 +122,36 @@ impl Bank {
                 (format!("= ok {cursor} {rendered}\n{}c{counted}\n", samples(asked.digest, &audio)), (rendered * slots) as u64)
             }
         }
+    }
+
+    fn park(&mut self, w: &mut Words) -> Result<String, Wrong> {
+        let length = w.length()?;
+        w.end()?;
+        let l = self.lent();
+        let (given, wrong) = parked::park(&self.setup, self.cursor, [&l.targets, &l.records, &l.delay], length);
+        self.back(l);
+        Ok(match given {
+            Err(r) => refused(r, &wrong),
+            Ok(file) => {
+                self.file = file;
+                format!("= ok{wrong}\nh{}\n", sums(&parked::words(&self.file)))
+            }
+        })
+    }
+
+    fn restore(&mut self, w: &mut Words) -> Result<String, Wrong> {
+        let lengths = lengths(w)?;
+        w.end()?;
+        let (given, wrong) = parked::restore(&self.file, lengths);
+        Ok(match given {
+            Err(r) => refused(r, &wrong),
+            Ok(bank) => {
+                (self.setup, self.cursor) = (bank.setup, bank.cursor);
+                [self.targets, self.records, self.delay] = bank.lists;
+                let t = &self.setup.table;
+                format!("= ok {}{wrong}\ns {} {} {:08x}\n", self.cursor, parked::setup_text(&self.setup), t.active, canonical(t.gain))
+            }
+        })
     }
 
     fn dump(&self, w: &mut Words) -> Result<String, Wrong> {
@@ -149,19 +181,13 @@ impl Bank {
 fn lengths(w: &mut Words) -> Result<[usize; 3], Wrong> { Ok([w.length()?, w.length()?, w.length()?]) }
 
 fn kept(a: Result<usize, Refusal>) -> String {
-    match a { Ok(cursor) => format!("= ok {cursor}\n"), Err(r) => format!("= refused {}\n", number(r)) }
+    match a { Ok(cursor) => format!("= ok {cursor}\n"), Err(r) => refused(r, "") }
 }
 
 fn samples(digest: bool, audio: &[f32]) -> String {
     let words = answers(audio);
     if !digest { return format!("o{}\n", runs(&words)); }
-    let (s1, s2) = sums(&words);
-    format!("h {s1:08x} {s2:08x}\n")
-}
-
-/// s1 += w + 1, s2 += s1 over the sample words.
-fn sums(words: &[u32]) -> (u32, u32) {
-    words.iter().fold((0u32, 0u32), |(a, b), &w| { let a = a.wrapping_add(w).wrapping_add(1); (a, b.wrapping_add(a)) })
+    format!("h{}\n", sums(&words))
 }
 
 /// The rest of a block's first line and the four lines of lists after it.
@@ -170,17 +196,13 @@ fn read_block(w: &mut Words, lines: &mut Lines, digest: bool, out: &mut Replayed
     w.end()?;
     let mut lists = [vec![], vec![], vec![], vec![]];
     for (list, letter) in lists.iter_mut().zip(["p", "x", "y", "a"]) {
-        let expected = format!("the block's line {letter}");
-        let mut w = lines.wanted(&expected)?;
-        out.copy(w.line);
-        w.one_of(&expected, &[letter])?;
-        *list = w.list()?;
+        *list = out.take(lines, &format!("the block's line {letter}"), letter)?.list()?;
     }
     Ok((asked, lists))
 }
 
 /// Lines of answers, by their first word.
-pub fn is_answer(line: &str) -> bool { matches!(line.split(' ').next(), Some("=" | "o" | "h" | "c" | "t" | "r" | "d")) }
+pub fn is_answer(line: &str) -> bool { matches!(line.split(' ').next(), Some("=" | "o" | "h" | "c" | "s" | "t" | "r" | "d")) }
 
 pub fn replay(text: &str) -> Result<Replayed, Wrong> {
     let mut out = Replayed::default();
@@ -202,6 +224,9 @@ pub fn replay(text: &str) -> Result<Replayed, Wrong> {
             "set" => out.answer(&bank.set(&mut w)?),
             "start" => out.answer(&bank.start(&mut w)?),
             "dump" => out.answer(&bank.dump(&mut w)?),
+            "park" => out.answer(&bank.park(&mut w)?),
+            "restore" => out.answer(&bank.restore(&mut w)?),
+            name if parked::EDITS.contains(&name) => parked::edit(&mut bank.file, name, &mut w)?,
             name @ ("block" | "blockh") => {
                 let (asked, lists) = read_block(&mut w, &mut lines, name == "blockh", &mut out)?;
                 let (answer, rendered) = bank.block(&asked, &lists);

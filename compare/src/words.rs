@@ -83,7 +83,9 @@ impl<'a> Words<'a> {
         self.read(expected, |w| words.contains(&w).then_some(w))
     }
 
-    pub fn float(&mut self) -> Result<f32, Wrong> { self.read(DIGITS, bits).map(f32::from_bits) }
+    pub fn bits(&mut self) -> Result<u32, Wrong> { self.read(DIGITS, bits) }
+
+    pub fn float(&mut self) -> Result<f32, Wrong> { self.bits().map(f32::from_bits) }
 
     pub fn floats<const N: usize>(&mut self) -> Result<[f32; N], Wrong> {
         let mut all = [0.0; N];
@@ -105,7 +107,10 @@ impl<'a> Words<'a> {
     pub fn mark(&mut self) -> Result<bool, Wrong> { self.one_of("0 or 1", &["0", "1"]).map(|w| w == "1") }
 
     /// The numbers up to the line's end, in runs: `w` once, `w*n` n times.
-    pub fn list(&mut self) -> Result<Vec<f32>, Wrong> {
+    pub fn list(&mut self) -> Result<Vec<f32>, Wrong> { Ok(self.bits_list()?.into_iter().map(f32::from_bits).collect()) }
+
+    /// The same as bits.
+    pub fn bits_list(&mut self) -> Result<Vec<u32>, Wrong> {
         let mut numbers = vec![];
         while let Some(word) = self.words.next() {
             let (digits, times) = word.split_once('*').map_or((word, None), |(w, n)| (w, Some(n)));
@@ -113,7 +118,7 @@ impl<'a> Words<'a> {
             let count = times.map_or(Some(1), decimal).filter(|n| (1..=LONGEST).contains(n));
             let count = count.ok_or_else(|| self.wrong(&format!("a count from 1 to {LONGEST} after the *"), &quoted(word)))?;
             if count > LONGEST - numbers.len() { return Err(self.wrong(&format!("at most {LONGEST} numbers in a list"), "more")); }
-            numbers.resize(numbers.len() + count, f32::from_bits(value));
+            numbers.resize(numbers.len() + count, value);
         }
         Ok(numbers)
     }

@@ -1,4 +1,4 @@
-//! `compare run`, `leaf` and `check`: files that cannot be read, and answers that differ.
+//! `compare run`, `leaf`, `file` and `check`: files that cannot be read, and answers that differ.
 
 mod common;
 
@@ -6,12 +6,19 @@ use common::{compare, stored, written, Ended};
 
 const OPEN: &str = "open 2 45fa0000 43dc0000 1 1 0 10 30 1024\n";
 
+/// The same bank opened and parked, with its answers.
+const PARKED: &str = "open 2 45fa0000 43dc0000 1 1 0 10 30 1024\n= ok 0\npark 6656\n= ok\nh 00000680 35a9d4a8\n";
+
+/// A file restored, and what it answers.
+const RESTORE: &str = "restore 10 30 1024\n";
+const RESTORED: &str = "= ok 0\ns 2 45fa0000 43dc0000 1 1 0 0 3f800000\n";
+
 /// A frame that is over the pitch ceiling there, and what it answers.
 const BLOCK: &str = "block 1 0\np 42700000\nx\ny\na 00000000\n";
 const ANSWER: &str = "= ok 0 1\no 00000000\nc 1\n";
 
 /// Lines after a scenario's first line, and what is said about them.
-const SCENARIOS: [(&str, &str); 40] = [
+const SCENARIOS: [(&str, &str); 50] = [
     ("nonsense", "line 2: expected a call, a preparation, an answer or a comment, found \"nonsense\""),
     ("a 3f800000", "line 2: expected a call, a preparation, an answer or a comment, found \"a\""),
     (" dump", "line 2: expected a call, a preparation, an answer or a comment, found \"\""),
@@ -52,6 +59,29 @@ const SCENARIOS: [(&str, &str); 40] = [
     ("block 1 0\np 3f800000\nx", "line 5: expected the block's line y, found the file's end"),
     ("block 1 0\np 3f800000\ny", "line 4: expected the block's line x, found \"y\""),
     ("blockh 1 0\np 3f800000 3f8", "line 3: expected eight lower-case hexadecimal digits, found \"3f8\""),
+    ("park", "line 2: expected a whole number, at most 16777216, found the line's end"),
+    ("park 16777217", "line 2: expected a whole number, at most 16777216, found \"16777217\""),
+    ("park 6656 2", "line 2: expected the line's end, found \"2\""),
+    ("restore 10 30", "line 2: expected a whole number, at most 16777216, found the line's end"),
+    ("restore 10 30 1024 1", "line 2: expected the line's end, found \"1\""),
+    ("swap 0 0", "line 2: expected one of the file's 0 blocks, from 0, found \"0\""),
+    ("byte 0 0", "line 2: expected one of the file's 0 bytes, from 0, found \"0\""),
+    ("cut -1", "line 2: expected a whole number below 2^64, found \"-1\""),
+    ("cut 0 0", "line 2: expected the line's end, found \"0\""),
+    ("take", "line 2: expected a call, a preparation, an answer or a comment, found \"take\""),
+];
+
+/// Lines after a bank of one voice is parked, in the fifth line.
+const EDITS: [(&str, &str); 9] = [
+    ("swap 0 13", "line 6: expected one of the file's 13 blocks, from 0, found \"13\""),
+    ("swap 0", "line 6: expected one of the file's 13 blocks, from 0, found the line's end"),
+    ("drop -1", "line 6: expected one of the file's 13 blocks, from 0, found \"-1\""),
+    ("twice 0 1", "line 6: expected the line's end, found \"1\""),
+    ("byte 6656 0", "line 6: expected one of the file's 6656 bytes, from 0, found \"6656\""),
+    ("byte 6655 256", "line 6: expected a whole number, at most 255, found \"256\""),
+    ("word 12 128 00000000", "line 6: expected a whole number, at most 127, found \"128\""),
+    ("word 12 127 0", "line 6: expected eight lower-case hexadecimal digits, found \"0\""),
+    ("cut 6655\nmend 12", "line 7: expected one of the file's 12 blocks, from 0, found \"12\""),
 ];
 
 const LEAVES: [(&str, &str); 10] = [
@@ -67,6 +97,41 @@ const LEAVES: [(&str, &str); 10] = [
     ("read 16777217 1024 0 0 3f800000 =", "line 2: expected a whole number, at most 16777216, found \"16777217\""),
 ];
 
+const IMAGE: &str = "image 9 45fa0000 43dc0000 1 1 0 0 0 3f800000 2 0";
+const LISTS: &str = "n 00000000*160\nc 00000000*8\nt 3f000000*10\nr 00000000*30\nd 00000000*1024\n";
+
+/// Lines of a case on parked files, after its first line.
+const CASES: [(&str, &str); 19] = [
+    ("nonsense", "line 2: expected a line of a case, an answer or a comment, found \"nonsense\""),
+    ("stage 13", "line 2: expected stage 12, found \"13\""),
+    ("image 4294967296", "line 2: expected a whole number that fits 32 bits, found \"4294967296\""),
+    ("image 9 45fa0000 43dc0000 1 1 0 0 0 3f800000", "line 2: expected two axes, found the line's end"),
+    ("image 9 45fa0000 43dc0000 1 1 0 0 0 3f800000 3 0", "line 2: expected two axes, found \"3\""),
+    ("image 9 45fa0000 43dc0000 1 1 0 0 0 3f800000 2 1", "line 2: expected no chord, found \"1\""),
+    ("image 9 45fa0000 43dc0000 1 1 2 0 0 3f800000 2 0", "line 2: expected 0 or 1, found \"2\""),
+    (IMAGE, "line 3: expected the image's line n, found the file's end"),
+    ("bytes", "line 2: expected a whole number below 2^64, found the line's end"),
+    ("bytes 512 0", "line 2: expected the line's end, found \"0\""),
+    ("take 1", "line 2: expected the line's end, found \"1\""),
+    ("file 3f8", "line 2: expected eight lower-case hexadecimal digits, found \"3f8\""),
+    ("file 00000000*16777216 3f800000", "line 2: expected at most 16777216 numbers in a list, found more"),
+    ("park 2 6656", "line 2: expected edition 1, found \"2\""),
+    ("park 1 16777217", "line 2: expected a whole number, at most 16777216, found \"16777217\""),
+    ("park 1 6656 1", "line 2: expected the line's end, found \"1\""),
+    ("restore 10 30", "line 2: expected a whole number, at most 16777216, found the line's end"),
+    ("restore 10 30 1024 1", "line 2: expected the line's end, found \"1\""),
+    ("rewrite 6656", "line 2: expected a line of a case, an answer or a comment, found \"rewrite\""),
+];
+
+/// The same after an image's first line.
+const IMAGES: [(&str, &str); 5] = [
+    ("n 00000000*159", "line 3: expected 160 numbers, found 159"),
+    ("t 00000000", "line 3: expected the image's line n, found \"t\""),
+    ("n 00000000*160\nc 00000000*7 3f800000", "line 4: expected 00000000*8, found \"00000000*7\""),
+    ("n 00000000*160\nc 00000000*8\nt 0", "line 5: expected eight lower-case hexadecimal digits, found \"0\""),
+    ("n 00000000*160\nc 00000000*8\nt\nr\npark 1 0", "line 7: expected the image's line d, found \"park\""),
+];
+
 fn malformed(e: &Ended, message: &str) {
     assert_eq!(e.err, format!("{message}\n"));
     assert_eq!((e.status, e.out.as_str()), (Some(2), ""));
@@ -75,6 +140,9 @@ fn malformed(e: &Ended, message: &str) {
 #[test]
 fn malformed_lines_are_named() {
     for (lines, message) in SCENARIOS { malformed(&compare(&["run"], format!("scenario a\n{lines}\n").as_bytes()), message); }
+    for (lines, message) in EDITS { malformed(&compare(&["run"], format!("{PARKED}{lines}\n").as_bytes()), message); }
+    for (lines, message) in CASES { malformed(&compare(&["file"], format!("case 0\n{lines}\n").as_bytes()), message); }
+    for (lines, message) in IMAGES { malformed(&compare(&["file"], format!("case 0\n{IMAGE}\n{lines}\n").as_bytes()), message); }
     for (row, message) in LEAVES { malformed(&compare(&["leaf"], format!("# leaves\n{row}\n").as_bytes()), message); }
     malformed(&compare(&["run"], b"scenario a\n# \xff\n"), "line 2: expected text in UTF-8, found the byte ff");
     malformed(&compare(&["leaf"], b"\n\n\xc3("), "line 3: expected text in UTF-8, found the byte c3");
@@ -86,14 +154,21 @@ fn malformed_lines_are_named() {
 /// One byte changed at every place of a file, and the file cut there: it is read or refused.
 #[test]
 fn no_damage_ends_a_run() {
-    let file = format!("{OPEN}table 1 3f800000 3f000000*20\npoke r 29 3f800000\nlend 9 30 1024\nset 0{}\ncounts 1\n{BLOCK}dump\n", " 3f800000".repeat(9));
-    assert_eq!(compare(&["run"], file.as_bytes()).status, Some(0));
+    let table = "table 1 3f800000 3f000000*20\npoke r 29 3f800000\n";
+    let file = format!("{OPEN}{table}lend 9 30 1024\nset 0{}\ncounts 1\n{BLOCK}dump\n", " 3f800000".repeat(9));
+    undamaged("run", &file);
+    undamaged("run", &format!("{OPEN}park 6656\nswap 0 12\ntwice 3\ndrop 3\nbyte 6655 7\nword 12 127 00000000\nmend 12\n{RESTORE}cut 512\n"));
+    undamaged("file", &format!("stage 12\ncase 0\n{IMAGE}\n{LISTS}park 1 6656\ntake\nbytes 6144\n{RESTORE}file 00000000*128\n"));
+}
+
+fn undamaged(kind: &str, file: &str) {
+    assert_eq!(compare(&[kind], file.as_bytes()).status, Some(0));
     for at in 0..file.len() {
         for byte in [b' ', b'9', 0xff] {
-            let mut damaged = file.clone().into_bytes();
+            let mut damaged = file.as_bytes().to_vec();
             damaged[at] = byte;
             for bytes in [&damaged[..], &damaged[..at]] {
-                let e = compare(&["run"], bytes);
+                let e = compare(&[kind], bytes);
                 assert!(matches!(e.status, Some(0 | 2)) && e.err.lines().count() <= 1, "{:?}: {}", String::from_utf8_lossy(bytes), e.err);
             }
         }
@@ -130,6 +205,55 @@ fn counts_of_wrong_setups() {
     }
 }
 
+/// Lines after a bank was parked, and what a restore then answers.
+#[test]
+fn files_are_edited() {
+    let refused = |n: u32| format!("= refused {n}\n");
+    for (lines, answer) in [
+        ("", RESTORED.to_string()),
+        ("swap 0 12\nswap 3 3\nswap 1 5\n", RESTORED.to_string()),
+        ("drop 12\n", refused(13)),
+        ("drop 0\n", refused(13)),
+        ("twice 4\n", refused(13)),
+        ("twice 0\ndrop 0\n", RESTORED.to_string()),
+        ("byte 0 2\n", refused(12)),
+        ("byte 0 1\n", RESTORED.to_string()),
+        ("byte 6655 0\n", refused(12)),
+        ("byte 6655 0\nmend 12\n", RESTORED.to_string()),
+        ("word 0 1 00000009\n", refused(12)),
+        ("word 0 1 00000009\nmend 0\n", RESTORED.replace("s 2", "s 9")),
+        ("word 0 1 0000000d\nmend 0\n", refused(5)),
+        ("word 0 4 00000002\nmend 0\n", refused(13)),
+        ("word 0 7 00000005\nword 0 8 00000001\nmend 0\n", RESTORED.replace("ok 0", "ok 4294967301")),
+        ("word 0 9 00000003\nmend 0\nword 1 44 ffffffff\nmend 1\n", RESTORED.replace("0 3f800000", "3 7fc00000")),
+        ("cut 6655\n", refused(12)),
+        ("cut 6144\n", refused(13)),
+        ("cut 0\n", refused(13)),
+        ("cut 6657\n", RESTORED.to_string()),
+        ("setup 2 7fc00000 43dc0000 1 1 0\npark 6656\n= refused 1\n", RESTORED.to_string()),
+        ("park 6655\n= refused 6\n", RESTORED.to_string()),
+        ("lend 10 30 1023\npark 6656\n= refused 6\n", RESTORED.to_string()),
+        ("restore 10 30 1025\n= refused 6\n", RESTORED.to_string()),
+        ("scenario b\n", refused(13)),
+    ] {
+        let text = format!("{PARKED}{lines}{RESTORE}{answer}");
+        let e = compare(&["run"], text.as_bytes());
+        assert_eq!((e.status, e.out, e.err.as_str()), (Some(0), text, ""));
+    }
+}
+
+/// A restore gives lists, setup, table and cursor back, and leaves a `lend` line to the next call that is lent the bank's lists.
+#[test]
+fn a_restored_bank_goes_on() {
+    let dump = "dump\nt 3dcccccd 00000000 3f800000 3eaaaaab 00000000 3f800000*2 00000000*3\nr 3dcccccd 00000000 3f800000 3eaaaaab 00000000 3f800000*2 \
+        00000000*23\nd 00000000*1024\n";
+    let spoilt = "setup 5 45fa0000 42c80000 1 1 1\ntable 8 00000000\ncursor 9\npoke t 0 00000000*10\npoke r 0 3f800000*30\npoke d 0 3f800000*1024\n";
+    let again = "park 6656\n= ok\nh 00000680 35a9d4a8\n";
+    let text = format!("{PARKED}{spoilt}{RESTORE}{RESTORED}{dump}{again}lend 9 30 1024\n{RESTORE}{RESTORED}start 0\n= refused 6\nstart 0\n= ok 0\n");
+    let e = compare(&["run"], text.as_bytes());
+    assert_eq!((e.status, e.out, e.err.as_str()), (Some(0), text, ""));
+}
+
 fn check(test: &str, kind: &str, text: &str) -> Ended {
     let path = written(test, "file", text).display().to_string();
     let mut e = compare(&["check", kind, &path], b"");
@@ -139,7 +263,7 @@ fn check(test: &str, kind: &str, text: &str) -> Ended {
 
 #[test]
 fn the_repository_s_files_pass() {
-    for (kind, path) in [("run", "crates/scenarios/stdin"), ("leaf", "crates/leaves/stdin")] {
+    for (kind, path) in [("run", "crates/scenarios/stdin"), ("leaf", "crates/leaves/stdin"), ("file", "compare/tests/parked.txt")] {
         let text = stored(path);
         let replayed = compare(&[kind], text.as_bytes());
         assert!(replayed.status == Some(0) && replayed.out == text && replayed.err.is_empty());
@@ -168,6 +292,14 @@ fn differences_are_shown() {
         let e = check("differences", "run", &text);
         assert_eq!((e.status, e.out.as_str(), e.err), (Some(1), "", format!("FILE: differs at {message}\n")));
     }
+    for (from, to) in [("= refused 12", "= refused 13"), ("nh 3f002161", "nh 3f002160"), ("h 00001600", "h 00001601"), ("t 3dcccccd", "t 3dccccce")] {
+        let text = stored("compare/tests/parked.txt");
+        let at = text.rfind(&format!("\n{from}")).expect("the answer") + 1;
+        let (before, after) = text.split_at(at);
+        let e = check("file_difference", "file", &format!("{before}{to}{}", &after[from.len()..]));
+        let line = before.lines().count() + 1;
+        assert!(e.status == Some(1) && e.err.starts_with(&format!("FILE: differs at line {line}\nfile: {to}")), "{}", e.err);
+    }
     for (file, ours) in [("exp2 00000000 = 3f800001", "exp2 00000000 = 3f800000"), ("over 428a0000 3f000000 = 0", "over 428a0000 3f000000 = 1")] {
         let e = check("leaf_difference", "leaf", &format!("{file}\n"));
         assert_eq!((e.status, e.err), (Some(1), format!("FILE: differs at line 1\nfile: {file}\nours: {ours}\n")));
@@ -188,7 +320,8 @@ fn long_lines_are_cut() {
 
 #[test]
 fn files_without_an_answer_do_not_pass() {
-    for (kind, text) in [("run", ""), ("run", "# nothing\n"), ("run", "scenario a\ncursor 5\n"), ("leaf", ""), ("leaf", "# nothing\n\n")] {
+    for (kind, text) in [("run", ""), ("run", "# nothing\n"), ("run", "scenario a\ncursor 5\n"), ("leaf", ""), ("leaf", "# nothing\n\n"),
+        ("file", ""), ("file", "# nothing\nstage 12\n\ncase 0\nfile 00000000\n")] {
         let e = check("no_answer", kind, text);
         assert_eq!((e.status, e.out.as_str(), e.err.as_str()), (Some(1), "", "FILE: holds no answer, so nothing is compared\n"), "{text:?}");
     }
@@ -197,6 +330,7 @@ fn files_without_an_answer_do_not_pass() {
 #[test]
 fn a_malformed_file_is_no_difference() {
     malformed(&check("malformed", "run", "scenario a\nopen 4294967298\n"), "line 2: expected a whole number that fits 32 bits, found \"4294967298\"");
+    malformed(&check("malformed", "file", "stage 12\ncase 0\npark 1\n"), "line 3: expected a whole number, at most 16777216, found the line's end");
     assert_eq!(compare(&["check", "run", "/nowhere/file"], b"").status, Some(2));
 }
 

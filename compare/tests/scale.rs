@@ -7,25 +7,32 @@ use std::os::unix::fs::PermissionsExt;
 
 fn scenarios() -> String { stored("crates/scenarios/stdin") }
 fn leaves() -> String { stored("crates/leaves/stdin") }
+fn parked() -> String { stored("compare/tests/parked.txt") }
 
-/// How many scenarios and rows the repository's files have.
+/// How many scenarios, rows and cases the repository's files have.
 fn asked() -> usize { scenarios().lines().filter(|l| l.starts_with("scenario ")).count() }
 fn rows() -> usize { leaves().lines().filter(|l| !l.starts_with('#')).count() }
+fn cases() -> usize { parked().lines().filter(|l| l.starts_with("case ")).count() }
 
-/// A script that answers `gen` and `leafgen` with these texts, and then runs `ending`. `run` is what it does with calls to answer. It asks for its STAGE.
-fn script(test: &str, scenarios: &str, leaves: &str, ending: &str, run: &str) -> String {
-    let gen = written(test, "gen", scenarios);
-    let leafgen = written(test, "leafgen", leaves);
-    let cases = format!("gen) cat '{}'; {ending} ;;\nleafgen) cat '{}'; {ending} ;;\nrun) {run} ;;", gen.display(), leafgen.display());
-    let path = written(test, "oracle", &format!("#!/bin/sh\n[ \"$STAGE\" = 11 ] || exit 3\ncase $1 in\n{cases}\nesac\n"));
+/// A script that answers `gen`, `leafgen` and `filesgen` with these texts, and then runs `ending`. `run` is what it does with calls to answer. It asks
+/// for its STAGE.
+fn script_of(test: &str, [scenarios, leaves, parked]: [&str; 3], ending: &str, run: &str) -> String {
+    let answers: String = [("gen", scenarios), ("leafgen", leaves), ("filesgen", parked)].iter()
+        .map(|(name, text)| format!("{name}) cat '{}'; {ending} ;;\n", written(test, name, text).display())).collect();
+    let path = written(test, "oracle", &format!("#!/bin/sh\n[ \"$STAGE\" = 12 ] || exit 3\ncase $1 in\n{answers}run) {run} ;;\nesac\n"));
     std::fs::set_permissions(&path, std::fs::Permissions::from_mode(0o755)).expect("the script is a program");
     path.display().to_string()
 }
 
-/// A comparison of one file that should have as many scenarios and rows as the repository's.
-fn scale(oracle: &str) -> Ended {
-    compare(&["scale", oracle, "--seed", "7", "--samples", "1", "--scenarios", &asked().to_string(), "--rows", &rows().to_string()], b"")
+fn script(test: &str, scenarios: &str, leaves: &str, ending: &str, run: &str) -> String { script_of(test, [scenarios, leaves, &parked()], ending, run) }
+
+/// A comparison of one file of each kind with as many scenarios; as many rows and cases as the repository's have.
+fn scale_of(oracle: &str, scenarios: usize) -> Ended {
+    let [scenarios, rows, cases] = [scenarios, rows(), cases()].map(|n| n.to_string());
+    compare(&["scale", oracle, "--seed", "7", "--samples", "1", "--scenarios", &scenarios, "--rows", &rows, "--cases", &cases], b"")
 }
+
+fn scale(oracle: &str) -> Ended { scale_of(oracle, asked()) }
 
 fn fails(e: &Ended, why: &str) {
     assert_eq!(e.status, Some(1), "{}", e.out);
@@ -51,7 +58,9 @@ fn changed(text: &str, start: &str) -> String {
 fn a_whole_oracle_passes() {
     let e = scale(&script("whole", &scenarios(), &leaves(), "exit 0", "exit 1"));
     assert_eq!((e.status, e.err.as_str()), (Some(0), ""));
-    assert!(e.out.contains(&format!(" voice-samples, {} leaves, ", rows())) && e.out.contains(": 0 differences\n"), "{}", e.out);
+    let calls = parked().lines().filter(|l| l.starts_with("= ")).count();
+    let counted = format!(" voice-samples, {} leaves, {calls} calls on parked files, ", rows());
+    assert!(e.out.contains(&counted) && e.out.contains(": 0 differences\n"), "{}", e.out);
 }
 
 #[test]
@@ -94,6 +103,18 @@ fn leaves_cut_short_fail() {
 }
 
 #[test]
+fn parked_files_cut_short_fail() {
+    let whole = parked();
+    let fails_with = |test: &str, text: &str, why: &str| fails(&scale(&script_of(test, [&scenarios(), &leaves(), text], "exit 0", "exit 1")), why);
+    fails_with("parked_cut_in_a_line", whole.trim_end(), "the last line has no newline");
+    fails_with("parked_cut_after_a_case", before_last(&whole, "\ncase "), &format!("{} cases instead of {}", cases() - 1, cases()));
+    fails_with("parked_cut_after_a_question", before_last(&whole, "\n= "), "instead of an answer");
+    fails_with("parked_missing", "", "the last line has no newline");
+    fails_with("parked_changed", &changed(&whole, "\n= refused 1"), "the parked files differ at line ");
+    fails_with("parked_malformed", &whole.replacen("stage 12", "stage 15", 1), "the parked files cannot be read: line 2: ");
+}
+
+#[test]
 fn a_changed_answer_fails() {
     fails_with("changed_sample", &changed(&scenarios(), "\no "), &leaves(), "the scenarios differ at line ");
     fails_with("changed_count", &changed(&scenarios(), "\nc "), &leaves(), "the scenarios differ at line ");
@@ -104,8 +125,7 @@ fn a_changed_answer_fails() {
 #[test]
 fn scenarios_without_a_sample_fail() {
     let oracle = script("no_sample", "scenario a\ndump\nt\nr\nd\n", &leaves(), "exit 0", "exit 1");
-    let e = compare(&["scale", &oracle, "--samples", "1", "--scenarios", "1", "--rows", &rows().to_string()], b"");
-    fails(&e, "no voice-sample");
+    fails(&scale_of(&oracle, 1), "no voice-sample");
 }
 
 /// An oracle whose sums are all zero: of the scenario with a block of sums that block alone is left.
@@ -132,9 +152,21 @@ fn counts_shrink_with_their_block() {
         let spoilt = compare(&["run"], calls.as_bytes()).out.replace(&format!("\n{from}\n"), &format!("\n{to}\n"));
         let answering = format!("'{}' run | sed 's/^{from}$/{to}/'", env!("CARGO_BIN_EXE_compare"));
         let oracle = script(test, &spoilt, &leaves(), "exit 0", &answering);
-        let e = compare(&["scale", &oracle, "--samples", "1", "--scenarios", "1", "--rows", &rows().to_string()], b"");
-        fails(&e, &format!("with the Rust's answers:\nscenario a\n{open}= ok 0\n{small}and with ours:\n"));
+        fails(&scale_of(&oracle, 1), &format!("with the Rust's answers:\nscenario a\n{open}= ok 0\n{small}and with ours:\n"));
     }
+}
+
+/// Of a bank that is parked, changed and restored, the lines that the difference needs are left: the file's edits among them.
+#[test]
+fn parked_banks_shrink() {
+    let open = "open 2 45fa0000 43dc0000 1 1 0 10 30 1024\n";
+    let block = "block 1 0\np 42700000\nx\ny\na 00000000\n";
+    let calls = format!("scenario a\n{open}start 0\npark 6656\n{block}swap 0 3\nword 3 1 0000000d\nmend 3\nrestore 10 30 1024\n{block}dump\n");
+    let spoilt = compare(&["run"], calls.as_bytes()).out.replace("\n= refused 5\n", "\n= refused 4\n");
+    let answering = format!("'{}' run | sed 's/^= refused 5$/= refused 4/'", env!("CARGO_BIN_EXE_compare"));
+    let oracle = script("shrunk_parked", &spoilt, &leaves(), "exit 0", &answering);
+    let small = "park 6656\n= ok\nh 00000680 35a9d4a8\nswap 0 3\nword 3 1 0000000d\nmend 3\nrestore 10 30 1024\n= refused 4\n";
+    fails(&scale_of(&oracle, 1), &format!("with the Rust's answers:\nscenario a\n{open}= ok 0\n{small}and with ours:\n"));
 }
 
 #[test]

@@ -1,5 +1,5 @@
 //! Opens a bank of four voices in stereo, renders a second of a chord through a sweeping transistor ladder, and prints what it did: the same
-//! as `c/example.c`, to the bit.
+//! as `c/example.c`, to the bit. Half-way the bank is parked and goes on as restored, which changes no bit of the sound.
 
 use sentivolus::{version, Bank, Block, Refusal, Setup, Structure, VoiceParams};
 
@@ -7,6 +7,7 @@ const RATE: usize = 48000;
 const VOICES: usize = 4;
 const CHANNELS: usize = 2;
 const BLOCK: usize = 480;
+const BLOCKS: usize = RATE / BLOCK;
 /// A minor seventh: the notes in hertz.
 const NOTES: [f32; VOICES] = [220.0, 261.626, 329.628, 391.995];
 
@@ -51,14 +52,19 @@ fn main() -> Result<(), Refusal> {
     }
     let (mut phase, mut mix, mut swept) = ([0.0; VOICES], vec![], 0);
     let (mut pitch, mut audio) = (vec![0.0; BLOCK * VOICES], vec![0.0; BLOCK * CHANNELS * VOICES]);
-    for block in 0..RATE / BLOCK {
+    for block in 0..BLOCKS {
+        if block == BLOCKS / 2 {
+            let file = bank.park();
+            bank = Bank::restore(&file)?;
+            println!("parked after {block} blocks in a file of {} bytes, restored in new lists", file.len());
+        }
         feed(block, &mut phase, &mut pitch, &mut audio);
         bank.block(Block { frames: BLOCK, pitch: &pitch, steering: None }, &mut audio)?;
         mix.extend(audio.chunks(VOICES).map(|voices| voices.iter().fold(0.0, |sum, x| sum + x)));
         swept += over(&bank, 0) + over(&bank, 1);
     }
     let (left, right, sum) = (peak(&mix, 0), peak(&mix, 1), checksum(&mix));
-    println!("rendered {} blocks of {BLOCK} frames: peaks {left:.4} left, {right:.4} right, checksum {sum:08x}", RATE / BLOCK);
+    println!("rendered {BLOCKS} blocks of {BLOCK} frames: peaks {left:.4} left, {right:.4} right, checksum {sum:08x}");
     // The sweep ends at pitch 117 and the ceiling is near 137.9. At pitch 138 the offset of 2 puts the right channel over it, the left one below.
     pitch.fill(138.0);
     bank.block(Block { frames: BLOCK, pitch: &pitch, steering: None }, &mut audio)?;

@@ -1,8 +1,8 @@
 //! A bank that owns its lists.
 
-use crate::{calls, Block, Refusal, Setup, VoiceParams};
+use crate::{calls, parking, Block, Refusal, Setup, VoiceParams};
 
-/// A bank of voices with its setup, its lists and its cursor. Only [`Bank::open`] and [`Bank::clone`] allocate.
+/// A bank of voices with its setup, its lists and its cursor. Only [`Bank::open`], [`Bank::clone`], [`Bank::park`] and [`Bank::restore`] allocate.
 ///
 /// ```
 /// use sentivolus::{Bank, Block, Refusal, Setup, Structure, VoiceParams};
@@ -30,9 +30,7 @@ pub struct Bank {
 impl Bank {
     /// Opens a bank, every voice at the defaults and started.
     pub fn open(setup: Setup) -> Result<Bank, Refusal> {
-        let [targets, records, delay] = setup.lengths()?.map(|n| vec![0.0; n]);
-        let counts = vec![0; setup.slots()?];
-        let mut bank = Bank { setup, targets, records, delay, cursor: 0, counts };
+        let mut bank = Bank::zeros(setup)?;
         bank.cursor = calls::open(&bank.setup, &mut bank.targets, &mut bank.records, &mut bank.delay)?;
         Ok(bank)
     }
@@ -53,6 +51,45 @@ impl Bank {
         let (next, rendered) = calls::block(setup, *cursor, targets, records, delay, b, audio, counts)?;
         *cursor = next;
         Ok(rendered)
+    }
+
+    /// The bank as the bytes of a file; it stays as it is. [`park`](crate::park) writes them to a lent list.
+    ///
+    /// ```
+    /// use sentivolus::{Bank, Block, Refusal, Setup, Structure};
+    /// # fn main() -> Result<(), Refusal> {
+    /// let mut bank = Bank::open(Setup::new(Structure::Comb2, 48000.0, 1, 1))?;
+    /// let b = Block { frames: 64, pitch: &[57.0; 64], steering: None };
+    /// bank.block(b, &mut [0.5; 64])?;
+    /// let file = bank.park();
+    /// let mut restored = Bank::restore(&file)?;
+    /// let (mut here, mut there) = ([0.25; 64], [0.25; 64]);
+    /// bank.block(b, &mut here)?;
+    /// restored.block(b, &mut there)?;
+    /// assert_eq!(here, there);
+    /// assert_eq!(Bank::restore(&file[1..]).err(), Some(Refusal::Damaged));
+    /// # Ok(())
+    /// # }
+    /// ```
+    pub fn park(&self) -> Vec<u8> {
+        let mut file = vec![0; parking::park_len(&self.setup)];
+        let parked = parking::park(&self.setup, self.cursor, &self.targets, &self.records, &self.delay, &mut file);
+        parked.expect("the setup of an open bank is right and its lists are whole");
+        file
+    }
+
+    /// The bank that a file was parked from, its counts all 0. Refuses what [`parked_setup`](crate::parked_setup) does.
+    pub fn restore(file: &[u8]) -> Result<Bank, Refusal> {
+        let mut bank = Bank::zeros(parking::parked_setup(file)?.0)?;
+        (bank.setup, bank.cursor) = parking::restore(file, &mut bank.targets, &mut bank.records, &mut bank.delay)?;
+        Ok(bank)
+    }
+
+    /// Lists of zeros, as long as the setup asks.
+    fn zeros(setup: Setup) -> Result<Bank, Refusal> {
+        let [targets, records, delay] = setup.lengths()?.map(|n| vec![0.0; n]);
+        let counts = vec![0; setup.slots()?];
+        Ok(Bank { setup, targets, records, delay, cursor: 0, counts })
     }
 
     /// What it was opened with.
@@ -81,7 +118,7 @@ impl Bank {
     }
 
     /// How often each slot, channel × voices + voice, was over the pitch ceiling in the last accepted block, as [`block`](crate::block) counts; all 0
-    /// before the first.
+    /// before the first and after [`Bank::restore`].
     ///
     /// ```
     /// use sentivolus::{Bank, Block, Setup, Structure, VoiceParams};

@@ -144,32 +144,33 @@ pub fn version() -> u32 {
 /// One call of the archive, the setup's numbers first.
 macro_rules! call {
     ($name:ident, $s:expr $(, $rest:expr)*) => {
-        answer(ieee(|| unsafe {
+        ieee(|| unsafe {
             ffi::$name($s.code, $s.rate, $s.reference, $s.voices, $s.channels, $s.clean,
                 $s.table.active, &$s.table.sections, $s.table.gain $(, $rest)*)
-        }))
+        })
     };
 }
+pub(crate) use call;
 
 /// Opens a bank on the lent lists, every voice at the defaults and started; answers the cursor, 0.
 pub fn open(s: &Setup, targets: &mut [f32], records: &mut [f32], delay: &mut [f32]) -> Result<usize, Refusal> {
     // SAFETY: each pointer and length are of one slice, and no two of them overlap.
-    call!(sentivolus_open, s, targets.as_mut_ptr(), targets.len(), records.as_mut_ptr(), records.len(), delay.as_mut_ptr(), delay.len())
+    answer(call!(sentivolus_open, s, targets.as_mut_ptr(), targets.len(), records.as_mut_ptr(), records.len(), delay.as_mut_ptr(), delay.len()))
         .map(|()| 0)
 }
 
 /// Writes one voice's targets; answers the cursor. Of the lists it measures targets alone.
 pub fn set(s: &Setup, cursor: usize, targets: &mut [f32], voice: usize, p: &VoiceParams) -> Result<usize, Refusal> {
     // SAFETY: pointer and length are of one slice.
-    call!(sentivolus_set, s, targets.as_mut_ptr(), targets.len(), voice,
-        p.resonance, p.drive, p.saturation, p.character, p.stereo_offset, p.mix, p.level, p.morph_x, p.morph_y)
+    answer(call!(sentivolus_set, s, targets.as_mut_ptr(), targets.len(), voice,
+        p.resonance, p.drive, p.saturation, p.character, p.stereo_offset, p.mix, p.level, p.morph_x, p.morph_y))
         .map(|()| cursor)
 }
 
 /// Starts one voice: copies its targets to its smoothed numbers and zeroes its states and rings; answers the cursor.
 pub fn start(s: &Setup, cursor: usize, targets: &[f32], records: &mut [f32], delay: &mut [f32], voice: usize) -> Result<usize, Refusal> {
     // SAFETY: each pointer and length are of one slice, and those that are written overlap no other.
-    call!(sentivolus_start, s, targets.as_ptr(), targets.len(), records.as_mut_ptr(), records.len(), delay.as_mut_ptr(), delay.len(), voice)
+    answer(call!(sentivolus_start, s, targets.as_ptr(), targets.len(), records.as_mut_ptr(), records.len(), delay.as_mut_ptr(), delay.len(), voice))
         .map(|()| cursor)
 }
 
@@ -192,8 +193,8 @@ pub fn block_marked(s: &Setup, cursor: usize, targets: &[f32], records: &mut [f3
     pitch: &[f32], steered: bool, x: &[f32], y: &[f32], audio: &mut [f32], counts: &mut [u32]) -> Result<(usize, usize), Refusal> {
     let (mut next, mut rendered) = (cursor, 0usize);
     // SAFETY: each pointer and length are of one slice, and those that are written, with `next` and `rendered`, overlap no other.
-    call!(sentivolus_block, s, &mut next, targets.as_ptr(), targets.len(), records.as_mut_ptr(), records.len(), delay.as_mut_ptr(), delay.len(),
+    answer(call!(sentivolus_block, s, &mut next, targets.as_ptr(), targets.len(), records.as_mut_ptr(), records.len(), delay.as_mut_ptr(), delay.len(),
         frames, pitch.as_ptr(), pitch.len(), steered, x.as_ptr(), x.len(), y.as_ptr(), y.len(), audio.as_mut_ptr(), audio.len(),
-        counts.as_mut_ptr(), counts.len(), &mut rendered)
+        counts.as_mut_ptr(), counts.len(), &mut rendered))
         .map(|()| (next, rendered))
 }

@@ -20,6 +20,17 @@ extern "C" {
         records: *mut f32, records_len: usize, delay: *mut f32, delay_len: usize, frames: usize, pitch: *const f32, pitch_len: usize,
         steered: bool, x: *const f32, x_len: usize, y: *const f32, y_len: usize, audio: *mut f32, audio_len: usize,
         counts: *mut u32, counts_len: usize, rendered: *mut usize) -> u32;
+    pub fn sentivolus_park_len(code: u32, rate: f32, reference: f32, voices: usize, channels: usize, clean: bool,
+        active: u32, sections: *const [f32; 160], gain: f32) -> usize;
+    pub fn sentivolus_park(code: u32, rate: f32, reference: f32, voices: usize, channels: usize, clean: bool,
+        active: u32, sections: *const [f32; 160], gain: f32, cursor: usize, targets: *const f32, targets_len: usize,
+        records: *const f32, records_len: usize, delay: *const f32, delay_len: usize, file: *mut u8, file_len: usize) -> u32;
+    pub fn sentivolus_parked_setup(file: *const u8, file_len: usize, code: *mut u32, rate: *mut f32, reference: *mut f32,
+        voices: *mut usize, channels: *mut usize, clean: *mut bool, active: *mut u32, sections: *mut [f32; 160], gain: *mut f32,
+        cursor: *mut usize) -> u32;
+    pub fn sentivolus_restore(file: *const u8, file_len: usize, targets: *mut f32, targets_len: usize, records: *mut f32, records_len: usize,
+        delay: *mut f32, delay_len: usize, code: *mut u32, rate: *mut f32, reference: *mut f32, voices: *mut usize, channels: *mut usize,
+        clean: *mut bool, active: *mut u32, sections: *mut [f32; 160], gain: *mut f32, cursor: *mut usize) -> u32;
     pub fn sentivolus_point(kind: u32, frequency: f32, q: f32, a: f32, b: f32, out: *mut [f32; 5]);
     pub fn sentivolus_table(kinds: *const [u32; 32], numbers: *const [f32; 128], gain_db: f32, sections: *mut [f32; 160], gain: *mut f32) -> u32;
     pub fn sentivolus_section(kinds: *const [u32; 32], numbers: *const [f32; 128], gain_db: f32, point: usize, x: f32, y: f32,

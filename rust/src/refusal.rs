@@ -1,8 +1,9 @@
-//! The refusals of document 01.
+//! The refusals of documents 01 and 02.
 
 use std::fmt;
 
-/// Why a call was refused; it changed nothing. Checks run in this order, each call making those whose values it takes.
+/// Why a call was refused; it changed nothing. Checks run in this order, each call making those whose values it takes; those of a parked file in the
+/// order that [`restore`](crate::restore) says.
 #[derive(Clone, Copy, Debug, PartialEq, Eq, Hash)]
 #[non_exhaustive]
 pub enum Refusal {
@@ -16,7 +17,7 @@ pub enum Refusal {
     Layout = 4,
     /// The code is not 1 to 12.
     Structure = 5,
-    /// Targets, records or delay are not exactly as long as the setup asks.
+    /// Targets, records, delay or the file to be written are not exactly as long as the setup asks.
     Store = 6,
     /// The voice number is not below voices.
     Voice = 7,
@@ -28,30 +29,36 @@ pub enum Refusal {
     Buffer = 10,
     /// The point number is above 7.
     Point = 11,
+    /// The parked file's length is no multiple of 512, or a block's sum is wrong.
+    Damaged = 12,
+    /// A block of the parked file is missing, doubled or unknown, or its word for clean is above 1.
+    Blocks = 13,
 }
 
 /// Each refusal with its word and its condition.
-const ALL: [(Refusal, &str, &str); 11] = [
+const ALL: [(Refusal, &str, &str); 13] = [
     (Refusal::Rate, "rate", "rate NaN, below 8,000 or above 384,000"),
     (Refusal::Tuning, "tuning", "reference NaN, below 1 or above 20,000"),
     (Refusal::Polyphony, "polyphony", "voices not 1 to 16"),
     (Refusal::Layout, "layout", "channels not 1 or 2"),
     (Refusal::Structure, "structure", "code not 1 to 12"),
-    (Refusal::Store, "store", "targets, records or delay of a wrong length"),
+    (Refusal::Store, "store", "targets, records, delay or the file to be written of a wrong length"),
     (Refusal::Voice, "voice", "voice number not below voices"),
     (Refusal::Knob, "knob", "NaN resonance, drive, saturation, character or mix"),
     (Refusal::Frames, "frames", "frames 0 or above 4,096"),
     (Refusal::Buffer, "buffer", "pitch, x, y, audio or counts of a wrong length"),
     (Refusal::Point, "point", "point number above 7"),
+    (Refusal::Damaged, "damaged", "file's length no multiple of 512, or a block's sum wrong"),
+    (Refusal::Blocks, "blocks", "block missing, doubled or unknown, or clean above 1"),
 ];
 
 impl Refusal {
-    /// The refusal of a number, 1 to 11.
+    /// The refusal of a number, 1 to 13.
     pub fn from_number(number: u32) -> Option<Refusal> {
         ALL.iter().map(|row| row.0).find(|r| r.number() == number)
     }
 
-    /// Its number in document 01.
+    /// Its number in documents 01 and 02.
     pub fn number(self) -> u32 {
         self as u32
     }

@@ -106,12 +106,13 @@ fn section_refuses_a_ninth_point() {
 
 #[test]
 fn refusals_have_numbers_and_words() {
-    for n in 1..=11 {
+    for n in 1..=13 {
         assert_eq!(Refusal::from_number(n).unwrap().number(), n);
     }
-    assert_eq!((Refusal::from_number(0), Refusal::from_number(12)), (None, None));
+    assert_eq!((Refusal::from_number(0), Refusal::from_number(14)), (None, None));
     let error: Box<dyn std::error::Error> = Box::new(Refusal::Polyphony);
     assert_eq!((error.to_string(), Refusal::Knob.word()), ("refused 3, polyphony: voices not 1 to 16".into(), "knob"));
+    assert_eq!([Refusal::Damaged.word(), Refusal::Blocks.word()], ["damaged", "blocks"]);
 }
 
 #[test]
@@ -119,7 +120,7 @@ fn defaults_are_the_archives() {
     assert_eq!(VoiceParams::default(), VoiceParams::from_array([0.1, 0.0, 0.0, 0.0, 0.0, 1.0, 1.0, 0.0, 0.0]));
     let bank = Bank::open(setup()).unwrap();
     assert_eq!(bank.targets(), targets_of(&VoiceParams::default()));
-    assert_eq!(version(), 300);
+    assert_eq!(version(), 400);
 }
 
 #[test]

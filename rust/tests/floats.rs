@@ -44,7 +44,7 @@ fn sitting(code: u32, mode: u32) -> Vec<u32> {
     let pitch: Vec<f32> = (0..512).map(|i| 60.0 + 3.0 * (i % 31) as f32).collect();
     let mut audio = noise(1024);
     let b = Block { frames: 256, pitch: &pitch, steering: None };
-    let mut bank = None;
+    let (mut bank, mut counts) = (None, vec![]);
     // SAFETY: between the two only calls of the wrapper are made, which put the default back for themselves.
     unsafe { put_mxcsr(mode) };
     let setup = Setup { code, table: table(&design), ..Setup::new(Structure::PoleZero, 48000.0, 2, 2) };
@@ -52,7 +52,8 @@ fn sitting(code: u32, mode: u32) -> Vec<u32> {
         opened.set(1, &p)?;
         opened.start(1)?;
         opened.block(b, &mut audio)?;
-        bank = Some(opened);
+        counts = opened.counts().to_vec();
+        bank = Some(Bank::restore(&opened.park())?);
         Ok(())
     });
     let left = mxcsr();
@@ -60,7 +61,7 @@ fn sitting(code: u32, mode: u32) -> Vec<u32> {
     assert_eq!((answer, left & !0x3f), (Ok(()), mode & !0x3f));
     let bank = bank.unwrap();
     let lists = [&audio[..], bank.targets(), bank.records(), bank.delay(), &bank.setup().table.sections];
-    lists.concat().iter().map(|x| x.to_bits()).chain(bank.counts().iter().copied()).chain([bank.cursor() as u32]).collect()
+    lists.concat().iter().map(|x| x.to_bits()).chain(counts).chain([bank.cursor() as u32]).collect()
 }
 
 #[test]
@@ -83,5 +84,26 @@ fn leaves_too() {
         let (a, b, c) = (root(smallest, &t), exp2(0.3), soft_clip(0.7));
         unsafe { put_mxcsr(DEFAULT) };
         assert_eq!([a, b, c].map(f32::to_bits), [root(smallest, &t), exp2(0.3), soft_clip(0.7)].map(f32::to_bits), "MXCSR {mode:04x}");
+    }
+}
+
+/// Parking and restoring move signalling NaNs, subnormals and zeros in every float environment alike.
+#[test]
+fn parking_too() {
+    let s = Setup::new(Structure::Comb2, 8000.0, 1, 1);
+    let [t, r, d] = s.lengths().unwrap();
+    let [nans, small, zeros] = [(t, 0x7f80_0001), (r, 1), (d, 0x8000_0000)].map(|(n, bits)| vec![f32::from_bits(bits); n]);
+    let (mut usual, mut file) = (vec![0; park_len(&s)], vec![0; park_len(&s)]);
+    park(&s, 5, &nans, &small, &zeros, &mut usual).unwrap();
+    for mode in MODES {
+        let [mut t, mut r, mut d] = [t, r, d].map(|n| vec![0.5; n]);
+        // SAFETY: as above.
+        unsafe { put_mxcsr(mode) };
+        let parked = park(&s, 5, &nans, &small, &zeros, &mut file);
+        let restored = restore(&file, &mut t, &mut r, &mut d);
+        unsafe { put_mxcsr(DEFAULT) };
+        assert_eq!((parked, restored), (Ok(5), Ok((s, 5))), "MXCSR {mode:04x}");
+        assert!(file == usual && t.iter().all(|x| x.is_nan()), "MXCSR {mode:04x}");
+        assert!(r.iter().all(|x| x.to_bits() == 1) && d.iter().all(|x| x.to_bits() == 0x8000_0000), "MXCSR {mode:04x}");
     }
 }

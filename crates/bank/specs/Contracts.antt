@@ -4,7 +4,7 @@ use mathlib.Core.Path.{_≡_}
 use mathlib.Core.List.{List}
 use Prim.Native.Nat.{ℕ}
 use lib.Ieee.{Float}
-use Rattle.slots.specs.Engine.{setupCheckOf}
+use Rattle.setups.specs.Setup.{setupCheckOf}
 use Rattle.voices.specs.Calls.{fine, Bank, startOf}
 use Rattle.voices.specs.Accepted.{Lengths}
 use Rattle.checks.specs.declared.Setup.{Setup}

@@ -1,13 +1,14 @@
--- Demand 3 at the bank's engine (document 01, 'A voice from its feed'; document 02, C-11: counts are compared too): the two statements,
--- then their proofs from voices/specs/Voice and the engine's laws. Assumes nothing.
+-- Demand 3 at the bank's engine (document 01, 'A voice from its feed'; document 02, C-11: counts are compared too; C-12: lists with park and
+-- restore): the two statements, then their proofs from voices/specs/Voice and the engine's laws. Assumes nothing.
 use mathlib.Core.Path.{_≡_, refl, subst}
 use Prim.Native.Nat.{ℕ, _<_}
 use mathlib.Core.List.{List, _++_}
 use Rattle.filter.specs.declared.VoiceParams.{VoiceParams}
-use Rattle.slots.specs.Engine.{SoloSetup, engineOf}
+use Rattle.slots.specs.Engine.{engineOf}
+use Rattle.setups.specs.Setup.{SoloSetup}
 use Rattle.slots.specs.Laws.{engine-laws}
-use Rattle.voices.specs.Calls.{Check, fine, refused, Engine, Bank, Call, callSet, callStart, callBlock, Run}
-use Rattle.voices.specs.Calls.{openVerdict, verdict, perform, call, opened, run}
+use Rattle.voices.specs.Calls.{Check, fine, refused, Engine, Bank, Call, callSet, callStart, callBlock, callPark, callRestore, Run}
+use Rattle.voices.specs.Calls.{openVerdict, verdict, perform, call, opened, run, Returning}
 use Rattle.voices.specs.Feed.{Event, feed, Same, Alike}
 use Rattle.voices.specs.Voice.{theorem, corollary}
 use Rattle.checks.specs.declared.Setup.{Setup}
@@ -29,12 +30,17 @@ feedOf s v b xs = feed (engine s) (s .voices) v xs (bankOpened s b)
 abbrev pub IsOpened : Setup → Bank → Type 0
 IsOpened s b = openVerdict (engine s) (s .voices) b ≡ fine
 
+-- every restore among those calls that is accepted is of the bank just parked (C-12): its file holds the setup s and the bank as it then stands. For a
+-- file that park wrote of that bank this is proved: `parked-returns`, parking/specs/Returned
+abbrev pub OfJustParked : Setup → Bank → List (Call VoiceParams) → Type 0
+OfJustParked s b xs = Returning (engine s) (s .voices) xs (bankOpened s b)
+
 -- In a bank that opened by the setup s on any lent lists b, after any calls xs, refused or not, each voice v is the plain voice of
 -- its feed, worked from the setup without its voices.
 abbrev pub EachVoice : Setup → Type 0
 EachVoice s =
     (v : ℕ) (b : Bank) (xs : List (Call VoiceParams))
-    → IsOpened s b → v < s .voices
+    → IsOpened s b → v < s .voices → OfJustParked s b xs
     → Same (engine s) (s .voices) v (bankAfter s b xs) (feedOf s v b xs)
 
 -- Two setups that are alike but for their voices, sixteen against one or any: voices of the two banks agree in all that is compared
@@ -44,6 +50,7 @@ TwoSetups s t =
     soloOf s ≡ soloOf t
     → (v u : ℕ) (b d : Bank) (xs ys : List (Call VoiceParams))
     → IsOpened s b → IsOpened t d → v < s .voices → u < t .voices
+    → OfJustParked s b xs → OfJustParked t d ys
     → feedOf s v b xs ≡ feedOf t u d ys
     → Alike (engine s) (s .voices) (t .voices) v u (bankAfter s b xs) (bankAfter t d ys)
 
@@ -56,6 +63,7 @@ two-setups s t e =
     subst (λ (o : SoloSetup).
     (v u : ℕ) (b d : Bank) (xs ys : List (Call VoiceParams))
     → IsOpened s b → openVerdict (engineOf o) (t .voices) d ≡ fine → v < s .voices → u < t .voices
+    → OfJustParked s b xs → Returning (engineOf o) (t .voices) ys (opened (engineOf o) (t .voices) d)
     → feedOf s v b xs ≡ feed (engineOf o) (t .voices) u ys (opened (engineOf o) (t .voices) d)
     → Alike (engine s) (s .voices) (t .voices) v u (bankAfter s b xs) (run (engineOf o) (t .voices) ys (opened (engineOf o) (t .voices) d)))
     e (corollary (engine s) (engine-laws (soloOf s)) (s .voices) (t .voices))
@@ -74,3 +82,5 @@ call-from E n x r = go (verdict E n x (r .bank)) x
     go fine (callSet v s) = refl
     go fine (callStart v) = refl
     go fine (callBlock q) = refl
+    go fine (callPark written) = refl
+    go fine (callRestore file lent) = refl

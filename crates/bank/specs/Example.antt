@@ -1,4 +1,4 @@
--- The statements of Demand3 speak of something: a setup whose open is accepted, a list of calls with a refused one in it, and a
+-- The statements of Demand3 speak of something: a setup whose open is accepted, a list of calls with refused ones in it, and a
 -- feed that computes to what one expects. By computation; no tick is opened. Assumes nothing.
 use mathlib.Core.Path.{_≡_, refl}
 use Prim.Native.Nat.{ℕ, _*_}
@@ -13,9 +13,11 @@ use Rattle.filter.specs.declared.VoiceParams.{VoiceParams}
 use Rattle.filter.specs.Voice.{defaultParams, targetsOf, morphTargetsOf, voiceTargets, nanKnob}
 use Rattle.pole_zero.specs.declared.Table.{Table}
 use Rattle.parts.specs.Parts.{tab, piece, patch}
-use Rattle.slots.specs.Engine.{referenceRefused, setupCheckOf}
+use Rattle.places.specs.Places.{count, every, soundFile, isOnce}
+use Rattle.setups.specs.Setup.{referenceRefused, setupCheckOf}
+use Rattle.setups.specs.Parked.{fileVerdict, restoreVerdict}
 use Rattle.voices.specs.Calls.{targetsWidth, recordWidth, fine, refused, check, _then_, Bank, Block, Call, callSet, callStart, callBlock}
-use Rattle.voices.specs.Calls.{setOf, startSlot, startOf, openOf, openVerdict, verdict, opened}
+use Rattle.voices.specs.Calls.{callPark, callRestore, setOf, startSlot, startOf, openOf, openVerdict, verdict, opened}
 use Rattle.voices.specs.Feed.{Frame, eventSet, eventStart, eventFrame, feed}
 use Rattle.checks.specs.declared.Setup.{Setup}
 use Rattle.checks.specs.Setup.{engine}
@@ -40,11 +42,28 @@ block : Block
 block = record { frames = 2; pitch = tab number 4; steered = true; x = tab number 4; y = replicate 4 nan; audio = tab number 4; counts = 8 ∷ 9 ∷ [] }
 
 calls : List (Call VoiceParams)
-calls = callStart 2 ∷ callSet 0 defaultParams ∷ callSet 1 defaultParams ∷ callStart 1 ∷ callBlock block ∷ []
+calls =
+    callStart 2
+    ∷ callSet 0 defaultParams
+    ∷ callPark 12288
+    ∷ callRestore [] lists
+    ∷ callSet 1 defaultParams
+    ∷ callStart 1
+    ∷ callBlock block
+    ∷ []
 
 voice-is-refused : (t : Table) → verdict (engine (setup t)) 2 (callStart 2) lists ≡ refused 7
 unfolding setup lists setupCheckOf referenceRefused rateRefused ringLen nextPower check _then_ isNan lt round size mul toUnsigned
 voice-is-refused t = refl
+
+-- 24 blocks: two of the setup, two of targets, two of records, nine of each ring
+park-is-accepted : (t : Table) → verdict (engine (setup t)) 2 (callPark 12288) lists ≡ fine
+unfolding setup lists setupCheckOf referenceRefused rateRefused ringLen nextPower check _then_ isNan lt round size mul toUnsigned
+park-is-accepted t = refl
+
+empty-is-refused : (t : Table) → verdict (engine (setup t)) 2 (callRestore [] lists) lists ≡ refused 13
+unfolding restoreVerdict fileVerdict soundFile every isOnce count check _then_
+empty-is-refused t = refl
 
 frame0 : Frame
 frame0 = record { pitch = number 1; inputs = number 1 ∷ []; steering = some (number 1, nan) }
@@ -52,10 +71,10 @@ frame0 = record { pitch = number 1; inputs = number 1 ∷ []; steering = some (n
 frame1 : Frame
 frame1 = record { pitch = number 3; inputs = number 3 ∷ []; steering = some (number 3, nan) }
 
--- the refused start and the other voice's set add nothing
+-- the refused calls, the other voice's set and the park add nothing
 feed-computes : (t : Table)
     → feed (engine (setup t)) 2 1 calls (opened (engine (setup t)) 2 lists)
     ≡ eventSet defaultParams ∷ eventStart ∷ eventFrame frame0 ∷ eventFrame frame1 ∷ []
 unfolding setup lists setupCheckOf referenceRefused rateRefused ringLen nextPower check _then_ isNan lt round size mul toUnsigned
-    block calls frame0 frame1 openOf startOf startSlot setOf piece patch nanKnob defaultParams voiceTargets targetsOf morphTargetsOf
+    restoreVerdict fileVerdict soundFile every isOnce count block calls frame0 frame1 openOf startOf startSlot setOf piece patch nanKnob defaultParams voiceTargets targetsOf morphTargetsOf
 feed-computes t = refl

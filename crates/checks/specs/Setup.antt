@@ -1,5 +1,6 @@
 -- A bank's setup and its polyphony apart (document 01, 'A bank is opened'). Definitions only.
-use Rattle.slots.specs.Engine.{SoloSetup, engineOf}
+use Rattle.slots.specs.Engine.{engineOf}
+use Rattle.setups.specs.Setup.{SoloSetup}
 use Rattle.voices.specs.Calls.{Engine}
 use Rattle.checks.specs.declared.Setup.{Setup}
 

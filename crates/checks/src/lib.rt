@@ -2,9 +2,9 @@
 ghost use mathlib.Core.Path.{_≡_};
 ghost use mathlib.Core.Bool.{cond};
 ghost use mathlib.Core.List.{[]};
-ghost use Rattle.slots.specs.Engine.{referenceRefused, within, setupCheckOf};
-ghost use Rattle.voices.specs.Calls.{callSet, callStart, callBlock};
-ghost use Rattle.checks.specs.Setup.{soloOf};
+ghost use Rattle.setups.specs.Setup.{referenceRefused, within, setupCheckOf};
+ghost use Rattle.voices.specs.Calls.{fine, callSet, callStart, callBlock, callPark, fileLength};
+ghost use Rattle.checks.specs.Setup.{soloOf, engine};
 ghost use Rattle.checks.specs.Checks.{checkOf, bankOf, blockFrom, IsOpenVerdict, IsVerdict};
 use filter::VoiceParams;
 use pole_zero::Table;
@@ -49,7 +49,7 @@ fn is_within(low: usize, high: usize, n: usize) -> bool
 }
 
 // Refusals 1 to 5.
-fn setup_check(setup: Setup) -> Verdict
+pub fn setup_check(setup: Setup) -> Verdict
     ensures { λ r. ⌜ checkOf r ≡ setupCheckOf (soloOf setup) (setup .voices) ⌝ }
 {
     if lines::rate_refused(setup.rate) {
@@ -128,6 +128,36 @@ pub fn start_check(
     }
     if setup.voices <= voice {
         return Verdict::Refused(7);
+    }
+    Verdict::Fine
+}
+
+// The bytes of a parked bank (C-12) in blocks of 512: two of the setup, one a voice, one a slot, one for every 126 cells of a slot's ring.
+pub fn file_length(setup: Setup) -> usize
+    requires { ⌜ setupCheckOf (soloOf setup) (setup .voices) ≡ fine ⌝ }
+    ensures { λ r. ⌜ r ≡ fileLength (engine setup) (setup .voices) ⌝ }
+{
+    let slots = setup.channels * setup.voices;
+    let parts = (lines::ring_len(setup.rate) + 125) / 126;
+    (2 + setup.voices + slots + slots * parts) * 512
+}
+
+// Those of open, then 6 of the list that park writes.
+pub fn park_check(
+    setup: Setup,
+    targets: &[f32],
+    records: &[f32],
+    delay: &[f32],
+    written: usize,
+) -> Verdict
+    ensures { λ r. ⌜ IsVerdict setup (callPark written) (bankOf (now (targets .entry)) (now (records .entry)) (now (delay .entry)) 0) r ⌝ }
+{
+    let first = open_check(setup, targets, records, delay);
+    if let Verdict::Refused(n) = first {
+        return Verdict::Refused(n);
+    }
+    if written != file_length(setup) {
+        return Verdict::Refused(6);
     }
     Verdict::Fine
 }

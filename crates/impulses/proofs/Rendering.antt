@@ -13,7 +13,7 @@ use lib.Ieee.{Float, binary32, ofBits, ofInt, round}
 use borrow.Author.Tests.{eq-eqb, le-leb}
 use Rattle.lane.specs.Floats.{zero as silent, one}
 use Rattle.lines.specs.Lines.{ringLen}
-use Rattle.slots.specs.Engine.{setupCheckOf}
+use Rattle.setups.specs.Setup.{setupCheckOf}
 use Rattle.voices.specs.Calls.{targetsWidth, recordWidth, fine, check, _then_, Bank, Block, callBlock, Answer, kept, rendered, Run, openOf, blockOf, openVerdict, verdict, cursorAfter}
 use Rattle.voices.specs.Accepted.{Lengths}
 use Rattle.checks.specs.declared.Setup.{Setup}

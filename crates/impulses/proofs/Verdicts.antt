@@ -8,7 +8,7 @@ use lib.Ieee.{Float, binary32, ofInt, round, isNan, lt}
 use borrow.Author.Tests.{ltb-false, le-leb, lt-leb, leb-true, not-true}
 use Rattle.lane.specs.Floats.{whole}
 use Rattle.lines.specs.Lines.{rateRefused}
-use Rattle.slots.specs.Engine.{referenceRefused, within, setupCheckOf}
+use Rattle.setups.specs.Setup.{referenceRefused, within, setupCheckOf}
 use Rattle.voices.specs.Calls.{Check, fine, refused, check, _then_}
 use Rattle.voices.specs.Accepted.{check-fine, then-fine, and-true}
 use Rattle.checks.specs.Setup.{soloOf}

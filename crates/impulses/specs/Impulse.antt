@@ -10,7 +10,7 @@ use lib.Ieee.{Float}
 use Rattle.lane.specs.Floats.{whole, zero, one}
 use Rattle.lines.specs.Lines.{ringLen}
 use Rattle.pole_zero.specs.PoleZero.{defaultDesign, tableOf}
-use Rattle.slots.specs.Engine.{within, setupCheckOf}
+use Rattle.setups.specs.Setup.{within, setupCheckOf}
 use Rattle.voices.specs.Calls.{Check, fine, refused, leastFrames, mostFrames, targetsWidth, recordWidth, openOf, blockOf}
 use Rattle.checks.specs.declared.Setup.{Setup}
 use Rattle.checks.specs.Setup.{soloOf, engine}

@@ -1,4 +1,4 @@
--- What the exported calls of the bank answer and leave: numbers in place of the answers of voices/specs/Calls (counts: document 02, C-11).
+-- What the exported calls of the bank answer and leave: numbers in place of the answers of voices/specs/Calls (document 02, C-11 and C-12).
 -- Definitions only. Assumes nothing.
 use mathlib.Core.Path.{_≡_}
 use Prim.Native.Nat.{ℕ}
@@ -6,14 +6,16 @@ use mathlib.Core.Bool.{Bool}
 use mathlib.Core.List.{List, [], _∷_}
 use lib.Ieee.{Float}
 use Rattle.filter.specs.declared.VoiceParams.{VoiceParams}
-use Rattle.voices.specs.Calls.{Bank, Block, Call, callBlock, Answer, refusedCall, kept, rendered, Run, call, openVerdict}
+use Rattle.voices.specs.Calls.{Check, fine, refused, Bank, Block, Call, callBlock, Answer, refusedCall, kept, rendered, Run, call, openVerdict}
 use Rattle.checks.specs.declared.Setup.{Setup}
-use Rattle.checks.specs.Setup.{engine}
+use Rattle.checks.specs.Setup.{soloOf, engine}
+use Rattle.setups.specs.Parked.{cursorIn, restoreVerdict, Holds}
 use Rattle.bank.specs.Bank.{before, openBy}
+use Rattle.parking.specs.Parking.{parkVerdict, writtenBy, setupIn, restoredBy}
 
 -- the interface's version, 10,000 x major + 100 x minor + patch
 abbrev pub version : ℕ
-version = 300
+version = 400
 
 -- a setup from the numbers that a caller in C hands over
 abbrev pub setupOf : (code : ℕ) (rate reference : Float) (voices channels : ℕ) (clean : Bool)
@@ -114,3 +116,38 @@ CallLeaves s x b n tg rs ds = ListsLeft (call (engine s) (s .voices) x (before b
 abbrev pub BlockLeaves : Setup → Block → Bank → (given number cursor frames : ℕ) (records delay audio : List Float) (counts : List ℕ) → Type 0
 BlockLeaves s q b given n cur f rs ds audio counts =
     BlockLeft (call (engine s) (s .voices) (callBlock q) (before b)) q given n cur f (b .targets) rs ds audio counts
+
+-- ---- park and restore (C-12)
+
+-- a verdict's number: a refusal's, or 0
+abbrev pub numberBy : Check → ℕ
+numberBy fine = 0
+numberBy (refused k) = k
+
+-- park, of the list that it is lent
+pub record ParkLeft (s : Setup) (b : Bank) (list : List ℕ) (number : ℕ) (list' : List ℕ) : Type 0 where
+  pub answer : number ≡ numberBy (parkVerdict s b list)
+  pub written : list' ≡ writtenBy (parkVerdict s b list) s b list
+  pub holds : parkVerdict s b list ≡ fine → Holds list' (soloOf s) (s .voices) b
+
+-- what stands behind the pointers afterwards: the file's setup and cursor, or what stood there
+abbrev pub setupBy : Check → (file : List ℕ) → Setup → Setup
+setupBy fine file given = setupIn file
+setupBy (refused k) file given = given
+
+abbrev pub cursorBy : Check → (file : List ℕ) → ℕ → ℕ
+cursorBy fine file given = cursorIn file
+cursorBy (refused k) file given = given
+
+pub record SetupLeft (v : Check) (file : List ℕ) (given : Setup) (at number : ℕ) (setup : Setup) (cursor : ℕ) : Type 0 where
+  pub answer : number ≡ numberBy v
+  pub setup' : setup ≡ setupBy v file given
+  pub cursor' : cursor ≡ cursorBy v file at
+
+-- restore, into the lists that it is lent
+pub record RestoreLeft (file : List ℕ) (lent : Bank) (given : Setup) (at number : ℕ) (setup : Setup) (cursor : ℕ)
+    (targets records delay : List Float) : Type 0 where
+  pub left : SetupLeft (restoreVerdict file lent) file given at number setup cursor
+  pub targets' : targets ≡ restoredBy (restoreVerdict file lent) file lent .targets
+  pub records' : records ≡ restoredBy (restoreVerdict file lent) file lent .records
+  pub delay' : delay ≡ restoredBy (restoreVerdict file lent) file lent .delay

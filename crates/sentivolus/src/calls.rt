@@ -5,11 +5,16 @@ ghost use Rattle.voices.specs.Calls.{callSet, callStart};
 ghost use Rattle.checks.specs.Checks.{bankOf, blockFrom};
 ghost use Rattle.bank.specs.Bank.{cursorOf};
 ghost use Rattle.filter.specs.Voice.{defaultParams};
+ghost use Rattle.setups.specs.Parked.{fileVerdict};
+ghost use Rattle.parking.specs.Parking.{parkLength};
 ghost use Rattle.sentivolus.specs.Calls.{version, setupOf, paramsOf, paramNumbers, OpenLeaves, CallLeaves, BlockLeaves};
-ghost use Rattle.sentivolus.specs.Answers.{numberOf, framesOr};
+ghost use Rattle.sentivolus.specs.Calls.{ParkLeft, SetupLeft, RestoreLeft};
+ghost use Rattle.sentivolus.specs.Answers.{numberOf, framesOr, heldNumber, setupLeft, cursorLeft};
 use bank::Answer;
 use checks::Setup;
+use checks::Verdict;
 use filter::VoiceParams;
+use parking::Held;
 use pole_zero::Table;
 
 // The interface's version: 10,000 x major + 100 x minor + patch.
@@ -17,7 +22,7 @@ use pole_zero::Table;
 pub extern "C" fn sentivolus_version() -> u32
     ensures { λ r. ⌜ r ≡ version ⌝ }
 {
-    300
+    400
 }
 
 // The default settings of a voice, in the order of VoiceParams.
@@ -288,4 +293,238 @@ pub extern "C" fn sentivolus_block(
     *cursor = cursor_of(a, from);
     *rendered = frames_or(a, shown);
     number_of(a)
+}
+
+// The bytes that `sentivolus_park` writes, 0 for a refused setup.
+#[no_mangle]
+pub extern "C" fn sentivolus_park_len(
+    code: u32,
+    rate: f32,
+    reference: f32,
+    voices: usize,
+    channels: usize,
+    clean: bool,
+    active: u32,
+    sections: &[f32; 160],
+    gain: f32,
+) -> usize
+    ensures { λ r. ⌜ r ≡ parkLength (setupOf code rate reference voices channels clean active (now (sections .entry)) gain) ⌝ }
+{
+    let s = setup_of(
+        code,
+        rate,
+        reference,
+        voices,
+        channels,
+        clean,
+        active,
+        sections,
+        gain,
+    );
+    parking::park_len(s)
+}
+
+// Writes a bank to a file (C-12). The cursor stays.
+#[no_mangle]
+pub extern "C" fn sentivolus_park(
+    code: u32,
+    rate: f32,
+    reference: f32,
+    voices: usize,
+    channels: usize,
+    clean: bool,
+    active: u32,
+    sections: &[f32; 160],
+    gain: f32,
+    cursor: usize,
+    targets: &[f32],
+    records: &[f32],
+    delay: &[f32],
+    file: &mut [u8],
+) -> u32
+    ensures { λ r. ⌜ ParkLeft (setupOf code rate reference voices channels clean active (now (sections .entry)) gain)
+        (bankOf (now (targets .entry)) (now (records .entry)) (now (delay .entry)) cursor)
+        (now (file .entry)) r (now (file .exit)) ⌝ }
+{
+    let s = setup_of(
+        code,
+        rate,
+        reference,
+        voices,
+        channels,
+        clean,
+        active,
+        sections,
+        gain,
+    );
+    number_of(parking::park(s, cursor, targets, records, delay, file))
+}
+
+fn held_number(held: Held) -> u32
+    ensures { λ r. ⌜ r ≡ heldNumber held ⌝ }
+{
+    let v = held.verdict;
+    match v {
+        Verdict::Fine => 0,
+        Verdict::Refused(n) => n,
+    }
+}
+
+// The setup that a file holds; of a refused one the one given.
+fn setup_left(held: Held, given: Setup) -> Setup
+    ensures { λ r. ⌜ r ≡ setupLeft held given ⌝ }
+{
+    let v = held.verdict;
+    match v {
+        Verdict::Fine => held.setup,
+        Verdict::Refused(_) => given,
+    }
+}
+
+fn cursor_left(held: Held, given: usize) -> usize
+    ensures { λ r. ⌜ r ≡ cursorLeft held given ⌝ }
+{
+    let v = held.verdict;
+    match v {
+        Verdict::Fine => held.cursor,
+        Verdict::Refused(_) => given,
+    }
+}
+
+// A setup's numbers, each to its place.
+fn put_setup(
+    setup: Setup,
+    code: &mut u32,
+    rate: &mut f32,
+    reference: &mut f32,
+    voices: &mut usize,
+    channels: &mut usize,
+    clean: &mut bool,
+    active: &mut u32,
+    sections: &mut [f32; 160],
+    gain: &mut f32,
+)
+    ensures { λ _. ⌜ setupOf (now (code .exit)) (now (rate .exit)) (now (reference .exit)) (now (voices .exit)) (now (channels .exit)) (now (clean .exit))
+        (now (active .exit)) (now (sections .exit)) (now (gain .exit)) ≡ setup ⌝ }
+{
+    let table = setup.table;
+    let numbers = table.sections;
+    *code = setup.code;
+    *rate = setup.rate;
+    *reference = setup.reference;
+    *voices = setup.voices;
+    *channels = setup.channels;
+    *clean = setup.clean;
+    *active = table.active;
+    *sections = numbers;
+    *gain = table.gain;
+}
+
+// The setup and the cursor of a parked file (C-12), so that lists can be lent: refused as by `sentivolus_restore`, but for 6.
+#[no_mangle]
+pub extern "C" fn sentivolus_parked_setup(
+    file: &[u8],
+    code: &mut u32,
+    rate: &mut f32,
+    reference: &mut f32,
+    voices: &mut usize,
+    channels: &mut usize,
+    clean: &mut bool,
+    active: &mut u32,
+    sections: &mut [f32; 160],
+    gain: &mut f32,
+    cursor: &mut usize,
+) -> u32
+    ensures { λ r. ⌜ SetupLeft (fileVerdict (now (file .entry))) (now (file .entry))
+        (setupOf (now (code .entry)) (now (rate .entry)) (now (reference .entry)) (now (voices .entry)) (now (channels .entry)) (now (clean .entry))
+        (now (active .entry)) (now (sections .entry)) (now (gain .entry)))
+        (now (cursor .entry)) r
+        (setupOf (now (code .exit)) (now (rate .exit)) (now (reference .exit)) (now (voices .exit)) (now (channels .exit)) (now (clean .exit))
+        (now (active .exit)) (now (sections .exit)) (now (gain .exit)))
+        (now (cursor .exit)) ⌝ }
+{
+    let kept = *sections;
+    let given = setup_of(
+        *code,
+        *rate,
+        *reference,
+        *voices,
+        *channels,
+        *clean,
+        *active,
+        &kept,
+        *gain,
+    );
+    let at = *cursor;
+    let held = parking::parked_setup(file);
+    put_setup(
+        setup_left(held, given),
+        code,
+        rate,
+        reference,
+        voices,
+        channels,
+        clean,
+        active,
+        sections,
+        gain,
+    );
+    *cursor = cursor_left(held, at);
+    held_number(held)
+}
+
+// Reads a bank from a file (C-12): the lists, the setup's numbers and the cursor become those that it holds.
+#[no_mangle]
+pub extern "C" fn sentivolus_restore(
+    file: &[u8],
+    targets: &mut [f32],
+    records: &mut [f32],
+    delay: &mut [f32],
+    code: &mut u32,
+    rate: &mut f32,
+    reference: &mut f32,
+    voices: &mut usize,
+    channels: &mut usize,
+    clean: &mut bool,
+    active: &mut u32,
+    sections: &mut [f32; 160],
+    gain: &mut f32,
+    cursor: &mut usize,
+) -> u32
+    ensures { λ r. ⌜ RestoreLeft (now (file .entry)) (bankOf (now (targets .entry)) (now (records .entry)) (now (delay .entry)) 0)
+        (setupOf (now (code .entry)) (now (rate .entry)) (now (reference .entry)) (now (voices .entry)) (now (channels .entry)) (now (clean .entry))
+        (now (active .entry)) (now (sections .entry)) (now (gain .entry)))
+        (now (cursor .entry)) r
+        (setupOf (now (code .exit)) (now (rate .exit)) (now (reference .exit)) (now (voices .exit)) (now (channels .exit)) (now (clean .exit))
+        (now (active .exit)) (now (sections .exit)) (now (gain .exit)))
+        (now (cursor .exit)) (now (targets .exit)) (now (records .exit)) (now (delay .exit)) ⌝ }
+{
+    let kept = *sections;
+    let given = setup_of(
+        *code,
+        *rate,
+        *reference,
+        *voices,
+        *channels,
+        *clean,
+        *active,
+        &kept,
+        *gain,
+    );
+    let at = *cursor;
+    let held = parking::restore(file, targets, records, delay);
+    put_setup(
+        setup_left(held, given),
+        code,
+        rate,
+        reference,
+        voices,
+        channels,
+        clean,
+        active,
+        sections,
+        gain,
+    );
+    *cursor = cursor_left(held, at);
+    held_number(held)
 }

@@ -6,7 +6,8 @@ use Rattle.filter.specs.declared.VoiceParams.{VoiceParams}
 use Rattle.filter.specs.Voice.{targetsOf, morphTargetsOf, voiceTargets}
 use Rattle.run.specs.Laws.{rec-length, ring-length}
 use Rattle.voices.specs.Calls.{targetsWidth, Laws}
-use Rattle.slots.specs.Engine.{SoloSetup, tickOf, engineOf}
+use Rattle.slots.specs.Engine.{tickOf, engineOf}
+use Rattle.setups.specs.Setup.{SoloSetup}
 
 pub targets-length : (p : VoiceParams) → length (voiceTargets p) ≡ targetsWidth
 unfolding voiceTargets targetsOf morphTargetsOf

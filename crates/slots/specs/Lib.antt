@@ -1,6 +1,5 @@
--- To be read: Engine, with Order.
+-- To be read: Engine.
 pub mod Engine
-pub mod Order
 pub mod Laws
 pub mod Slots
 pub mod Frame

@@ -14,7 +14,8 @@ use Rattle.run.specs.Contracts.{tableFor}
 use Rattle.voices.specs.Calls.{targetsWidth, recordWidth, mostFrames, Engine, Bank, Block, BlockRun, SlotRun, frameOf, slotOf}
 use Rattle.slots.specs.declared.Prepared.{Prepared}
 use Rattle.slots.specs.declared.Slot.{Slot}
-use Rattle.slots.specs.Engine.{SoloSetup, engineOf}
+use Rattle.slots.specs.Engine.{engineOf}
+use Rattle.setups.specs.Setup.{SoloSetup}
 
 -- ---- the setup, the block and the lists
 

@@ -1,4 +1,4 @@
--- The bank's calls on flat lists (document 01, 'A bank is opened' and 'One block goes through'; document 02, C-11). Definitions only.
+-- The bank's calls on flat lists (document 01, 'A bank is opened' and 'One block goes through'; document 02, C-11 and C-12). Definitions only.
 -- What the layers below make of a setup (its checks, targets_of, one tick) is an `Engine`; polyphony is the number n.
 use mathlib.Core.Path.{_≡_}
 use Prim.Native.Nat.{ℕ, _+_, _*_, _%_, _^_, _<_}
@@ -10,6 +10,7 @@ use lib.Dec.{ltb, leb, eqb}
 use lib.ListN.{length, set, replicate}
 use Rattle.lane.specs.Floats.{_‼_, zero}
 use Rattle.parts.specs.Parts.{upto, piece, patch}
+use Rattle.blocks.specs.Blocks.{partsOf, total}
 
 -- ---- widths of the lent lists (A bank is opened)
 
@@ -49,6 +50,24 @@ unfoldable pub _then_ : Check → Check → Check
 fine then c = c
 refused k then c = refused k
 
+-- ---- the lists
+
+-- the lent lists, by voice or slot, and the cursor
+pub record Bank : Type 0 where
+  pub targets : List Float
+  pub records : List Float
+  pub delay : List Float
+  pub cursor : ℕ
+
+-- 6: the lists of n voices as long as the widths, channels and ring length ask
+abbrev pub storeCheckOf : (channels ringLength n : ℕ) → Bank → Check
+storeCheckOf channels ringLength n b =
+    check
+    (eqb (length (b .targets)) (n * targetsWidth)
+    && eqb (length (b .records)) (channels * n * recordWidth)
+    && eqb (length (b .delay)) (channels * n * ringLength))
+    6
+
 -- ---- the engine: the setup without its polyphony, as the layers below read it
 
 -- x and y of a steered frame; none where the block is unsteered
@@ -74,6 +93,11 @@ pub record Engine : Type 1 where
   pub lines : Bool
   -- refusals 1 to 5 of the setup with n voices
   pub setupCheck : (n : ℕ) → Check
+  -- of a parked file (C-12): what the reader's checks come to with the lists that it is lent, the bank that it holds, and that its setup is this one
+  -- with n voices
+  pub restoreVerdict : (file : List ℕ) (lent : Bank) → Check
+  pub bankIn : (file : List ℕ) → Bank
+  pub OwnSetup : (n : ℕ) (file : List ℕ) → Type 0
   -- points 1 to 5 of 'One block goes through', for one frame of one channel
   pub tick : (channel : ℕ) (targets : List Float) (cursor : ℕ) (pitch input : Float) (steering : Steering) (rec ring : List Float) → Tick
 
@@ -89,13 +113,6 @@ pub record Laws (E : Engine) : Type 0 where
 
 -- ---- what the calls take, leave and answer
 
--- the lent lists, by voice or slot, and the cursor
-pub record Bank : Type 0 where
-  pub targets : List Float
-  pub records : List Float
-  pub delay : List Float
-  pub cursor : ℕ
-
 -- what block is given beside the bank; `counts` is C-11's list, one number a slot
 pub record Block : Type 0 where
   pub frames : ℕ
@@ -110,9 +127,12 @@ pub data Call (S : Type 0) : Type 0 where
   callSet : (voice : ℕ) → S → Call S
   callStart : (voice : ℕ) → Call S
   callBlock : Block → Call S
+  -- C-12: park is lent a list to write to, restore a file and lists, which may hold anything
+  callPark : (written : ℕ) → Call S
+  callRestore : (file : List ℕ) (lent : Bank) → Call S
 
--- a refusal's number; of set and start the cursor they were given; of block the new cursor and the frames rendered, here with the audio and
--- the counts that it left
+-- a refusal's number; of set, start and park the cursor they were given; of restore the file's; of block the new cursor and the frames
+-- rendered, here with the audio and the counts that it left
 pub data Answer : Type 0 where
   refusedCall : ℕ → Answer
   kept : (cursor : ℕ) → Answer
@@ -137,7 +157,7 @@ pub record SlotRun : Type 0 where
   pub count : ℕ
 
 module _ (E : Engine) where
-  open Engine E using (S, defaults, knobs, targetsOf, channels, ringLength, lines, setupCheck, tick)
+  open Engine E using (S, defaults, knobs, targetsOf, channels, ringLength, lines, setupCheck, restoreVerdict, bankIn, OwnSetup, tick)
 
   -- the cursor k frames on: wraps at the machine word if LINES, else stays
   unfoldable pub cursorAfter : ℕ → ℕ → ℕ
@@ -170,12 +190,14 @@ module _ (E : Engine) where
 
     -- 6, of open, start and block
     abbrev pub storeCheck : Bank → Check
-    storeCheck b =
-        check
-        (eqb (length (b .targets)) (n * targetsWidth)
-        && eqb (length (b .records)) (channels * n * recordWidth)
-        && eqb (length (b .delay)) (channels * n * ringLength))
-        6
+    storeCheck b = storeCheckOf channels ringLength n b
+
+    -- 6, of park, which measures the list to be written too: exactly as long as the blocks (C-12)
+    abbrev pub fileLength : ℕ
+    fileLength = total n (channels * n) (partsOf ringLength) * 512
+
+    abbrev pub fileCheck : (written : ℕ) → Check
+    fileCheck written = check (eqb written fileLength) 6
 
     -- 7
     abbrev pub voiceCheck : ℕ → Check
@@ -211,6 +233,8 @@ module _ (E : Engine) where
     verdict (callSet v s) b = setupCheck n then targetsCheck (b .targets) then voiceCheck v then knobCheck s
     verdict (callStart v) b = setupCheck n then storeCheck b then voiceCheck v
     verdict (callBlock q) b = setupCheck n then storeCheck b then framesCheck q then bufferCheck q
+    verdict (callPark written) b = setupCheck n then storeCheck b then fileCheck written
+    verdict (callRestore file lent) b = restoreVerdict file lent
 
     -- ---- set writes one voice's targets
 
@@ -290,6 +314,8 @@ module _ (E : Engine) where
           bank = record { targets = r .bank .targets; records = w .records; delay = w .delay; cursor = cur };
           log = rendered cur (q .frames) (w .audio) (w .counts) ∷ r .log;
         }
+    accepted (callPark written) r = record { bank = r .bank; log = kept (r .bank .cursor) ∷ r .log }
+    accepted (callRestore file lent) r = record { bank = bankIn file; log = kept (bankIn file .cursor) ∷ r .log }
 
     -- a refusal answers its number alone; lists and cursor keep their values
     abbrev pub perform : Check → Call S → Run → Run
@@ -303,6 +329,18 @@ module _ (E : Engine) where
     abbrev pub run : List (Call S) → Run → Run
     run [] r = r
     run (x ∷ xs) r = run xs (call x r)
+
+    -- every restore that is accepted is "of a bank just parked" (C-12): its file holds this setup and the bank as it stands
+    abbrev pub Returned : Call S → Run → Type 0
+    Returned (callSet v s) r = Unit {0}
+    Returned (callStart v) r = Unit {0}
+    Returned (callBlock q) r = Unit {0}
+    Returned (callPark written) r = Unit {0}
+    Returned (callRestore file lent) r = OwnSetup n file × (bankIn file ≡ r .bank)
+
+    abbrev pub Returning : List (Call S) → Run → Type 0
+    Returning [] r = Unit {0}
+    Returning (x ∷ xs) r = (verdict x (r .bank) ≡ fine → Returned x r) × Returning xs (call x r)
 
     -- a bank fresh from an accepted open
     abbrev pub opened : Bank → Run

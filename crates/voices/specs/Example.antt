@@ -4,18 +4,20 @@ use mathlib.Core.Path.{_≡_, refl, _∙_}
 use Prim.Native.Nat.{ℕ, _+_, _*_, _%_}
 use mathlib.Core.Bool.{true, false}
 use mathlib.Core.Option.{none}
-use mathlib.Core.List.{List, [], _∷_}
+use mathlib.Core.List.{List, [], _∷_, _++_}
 use lib.Ieee.{Float, nan, binary32, add, ofBits}
-use lib.Dec.{ltb}
-use lib.ListN.{getD, set, replicate, length-set, length-replicate}
-use Rattle.parts.specs.Parts.{tab, piece, patch}
+use lib.Dec.{ltb, eqb}
+use lib.ListN.{length, getD, set, replicate, length-set, length-replicate}
+use Rattle.lane.specs.Floats.{zero}
+use Rattle.parts.specs.Parts.{tab, flat, piece, patch}
 use Rattle.voices.specs.Calls.{targetsWidth, recordWidth, fine, refused, check, _then_, Engine, Laws, Bank, Block, Call, callSet, callStart}
 use Rattle.voices.specs.Calls.{callBlock, cursorAfter, setOf, startSlot, startOf, openOf, frameOf, framesOf, slotOf, blockOf, slot, openVerdict}
-use Rattle.voices.specs.Calls.{verdict, Run, run, opened}
+use Rattle.voices.specs.Calls.{verdict, Run, run, opened, callPark, callRestore, fileLength, Returning}
 use Rattle.voices.specs.Feed.{Frame, Event, eventStart, eventFrame, started, fresh, tickChannel, advance, voiceOf, feed, samplesOf, countOf}
 use Rattle.voices.specs.Voice.{TwoBanks, corollary}
 
--- two channels, rings of four; a tick sums the pitches in the record, adds to its input that of three frames ago and counts by channel and cursor
+-- two channels, rings of four; a file of one byte holds three voices at the defaults, started; a tick sums the pitches in the record, adds to its
+-- input that of three frames ago and counts by channel and cursor
 unfoldable pub exampleEngine : Engine
 exampleEngine = record {
   S = Float;
@@ -26,6 +28,9 @@ exampleEngine = record {
   ringLength = 4;
   lines = true;
   setupCheck = λ n. check (ltb n 17) 3;
+  restoreVerdict = λ f l. check (eqb (length f) 1) 12;
+  bankIn = λ f. record { targets = replicate 30 nan; records = flat (λ k. replicate 10 nan ++ replicate 20 zero) 6; delay = replicate 24 zero; cursor = 0 };
+  OwnSetup = λ n f. Unit {0};
   tick = λ c tg cur p i st r d. record {
     rec = set r 0 (add binary32 (getD r 0 nan) p);
     ring = set d (cur % 4) i;
@@ -62,11 +67,29 @@ block = record { frames = 2; pitch = tab number 6; steered = false; x = []; y = 
 
 calls : List (Call (exampleEngine .S))
 unfolding exampleEngine
-calls = callStart 3 ∷ callSet 0 nan ∷ callBlock block ∷ callStart 1 ∷ callBlock block ∷ []
+calls =
+    callStart 3
+    ∷ callSet 0 nan
+    ∷ callPark (fileLength exampleEngine 3)
+    ∷ callRestore (1 ∷ []) lists
+    ∷ callRestore [] lists
+    ∷ callBlock block
+    ∷ callStart 1
+    ∷ callBlock block
+    ∷ []
 
 voice-is-refused : verdict exampleEngine 3 (callStart 3) lists ≡ refused 7
 unfolding exampleEngine check _then_ lists
 voice-is-refused = refl
+
+-- the restore that is accepted is of the bank as it stands, and the other one is refused
+damaged-is-refused : verdict exampleEngine 3 (callRestore [] lists) lists ≡ refused 12
+unfolding exampleEngine check
+damaged-is-refused = refl
+
+returning : Returning exampleEngine 3 calls (opened exampleEngine 3 lists)
+unfolding exampleEngine check _then_ lists block calls openOf startOf startSlot setOf blockOf slotOf framesOf frameOf piece patch cursorAfter
+returning = (λ e. tt, (λ e. tt, (λ e. tt, (λ e. (tt, refl), (λ e. (tt, refl), (λ e. tt, (λ e. tt, (λ e. tt, tt))))))))
 
 after : Run
 after = run exampleEngine 3 calls (opened exampleEngine 3 lists)

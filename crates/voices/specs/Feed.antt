@@ -1,4 +1,4 @@
--- The feed of a voice, the plain voice, and what is compared (document 01, 'A voice from its feed'; document 02, C-11). Definitions only.
+-- The feed of a voice, the plain voice, and what is compared (document 01, 'A voice from its feed'; document 02, C-11 and C-12). Definitions only.
 -- 'Feed' and 'plain voice' are that section's terms: what a list of calls tells one voice, and one voice worked from that alone.
 use mathlib.Core.Path.{_≡_}
 use Prim.Native.Nat.{ℕ, suc, _+_, _<_}
@@ -10,6 +10,7 @@ use lib.ListN.{getD}
 use Rattle.lane.specs.Floats.{_‼_}
 use Rattle.parts.specs.Parts.{tab, piece}
 use Rattle.voices.specs.Calls.{targetsWidth, recordWidth, Check, fine, refused, Steering, Engine, Block, Call, callSet, callStart, callBlock}
+use Rattle.voices.specs.Calls.{callPark, callRestore}
 use Rattle.voices.specs.Calls.{Answer, refusedCall, kept, rendered, Run, cursorAfter, startRecord, startRing, slot, pitchIndex, audioIndex}
 use Rattle.voices.specs.Calls.{steeringAt, verdict, call}
 
@@ -97,12 +98,14 @@ module _ (E : Engine) where
       steering = steeringAt E n q k v;
     }
 
-    -- what one call with its verdict adds: a refused call, or a set or start of another voice, nothing
+    -- what one call with its verdict adds: a refused call, or a set or start of another voice, nothing; nor do park and restore (C-12)
     abbrev pub events : Check → (v : ℕ) → Call S → List (Event S)
     events (refused k) v x = []
     events fine v (callSet u s) = cond (eqb u v) (eventSet s ∷ []) []
     events fine v (callStart u) = cond (eqb u v) (eventStart ∷ []) []
     events fine v (callBlock q) = tab (λ k. eventFrame (frameAt q v k)) (q .frames)
+    events fine v (callPark written) = []
+    events fine v (callRestore file lent) = []
 
     -- of a list of calls on the run r, in the order of the calls
     abbrev pub feed : (v : ℕ) → List (Call S) → Run → List (Event S)

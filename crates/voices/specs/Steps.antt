@@ -16,6 +16,7 @@ use borrow.Author.Tests.{eqb-true, eqb-false}
 use Rattle.parts.specs.Parts.{piece}
 use Rattle.parts.specs.Laws.{upto-focus, piece-fits, length-patch, piece-patch, piece-other}
 use Rattle.voices.specs.Calls.{targetsWidth, recordWidth, Check, fine, refused, Engine, Laws, Bank, Block, Call, callSet, callStart, callBlock}
+use Rattle.voices.specs.Calls.{callPark, callRestore, Returned, Returning}
 use Rattle.voices.specs.Calls.{Run, cursorAfter, startRecord, slot, setOf, startOf, openOf, blockOf, openVerdict, verdict, accepted, perform}
 use Rattle.voices.specs.Calls.{call, run}
 use Rattle.voices.specs.Feed.{eventSet, eventStart, frameCount, framesRendered, PlainVoice, started, fresh, advance, play, frameAt, events}
@@ -200,20 +201,24 @@ module _ (E : Engine) (laws : Laws E) (n : ℕ) where
             (r .bank .cursor) c v hc hv p (h .targets) (h .cursor) (h .wrapped) (blockOf E n q (r .bank))
         d c hc = block-slot E laws n q (r .bank) a v hv p (h .targets) (h .cursor) (h .wrapped) c hc (h .rec c hc) (h .ring c hc)
 
-    step : (x : Call S) (r : Run) (p : PlainVoice) (k : Check) → verdict E n x (r .bank) ≡ k
+    step : (x : Call S) (r : Run) (p : PlainVoice) (k : Check) → verdict E n x (r .bank) ≡ k → (verdict E n x (r .bank) ≡ fine → Returned E n x r)
         → Invariant v r p → Invariant v (perform E n k x r) (play E (events E n k v x) p)
-    step x r p (refused k) e i = record { voice = i .voice; samples = i .samples; count = i .count }
-    step (callSet u s) r p fine e i = step-set u s r p e i
-    step (callStart u) r p fine e i = step-start u r p e i
-    step (callBlock q) r p fine e i = step-block q r p e i
+    step x r p (refused k) e t i = record { voice = i .voice; samples = i .samples; count = i .count }
+    step (callSet u s) r p fine e t i = step-set u s r p e i
+    step (callStart u) r p fine e t i = step-start u r p e i
+    step (callBlock q) r p fine e t i = step-block q r p e i
+    step (callPark written) r p fine e t i = record { voice = i .voice; samples = i .samples; count = i .count }
+    step (callRestore file lent) r p fine e t i =
+        record { voice = subst (λ (b : Bank). VoiceIs v b p) (sym (t e .1)) (i .voice); samples = i .samples; count = i .count }
 
     -- ---- all calls
-    pub steps : (xs : List (Call S)) (r : Run) (p : PlainVoice) → Invariant v r p → Invariant v (run E n xs r) (play E (feed E n v xs r) p)
-    steps [] r p i = i
-    steps (x ∷ xs) r p i =
+    pub steps : (xs : List (Call S)) (r : Run) (p : PlainVoice) → Returning E n xs r
+        → Invariant v r p → Invariant v (run E n xs r) (play E (feed E n v xs r) p)
+    steps [] r p t i = i
+    steps (x ∷ xs) r p t i =
         subst (λ (z : PlainVoice). Invariant v (run E n xs (call E n x r)) z)
         (sym (play-append E (events E n (verdict E n x (r .bank)) v x) (feed E n v xs (call E n x r)) p))
-        (steps xs (call E n x r) (play E (events E n (verdict E n x (r .bank)) v x) p) (step x r p (verdict E n x (r .bank)) refl i))
+        (steps xs (call E n x r) (play E (events E n (verdict E n x (r .bank)) v x) p) (t .1) (step x r p (verdict E n x (r .bank)) refl (t .0) i))
 
   -- ---- the frames rendered are those of the feed
   count-step : (x : Call S) (v : ℕ) (r : Run) (k : Check)
@@ -229,6 +234,8 @@ module _ (E : Engine) (laws : Laws E) (n : ℕ) where
       go : (t : Bool) → framesRendered (r .log) ≡ framesRendered (r .log) + frameCount {S = S} (cond t (eventStart ∷ []) [])
       go true = omega arith
       go false = omega arith
+  count-step (callPark written) v r fine = omega arith
+  count-step (callRestore file lent) v r fine = omega arith
   count-step (callBlock q) v r fine = omega (arith, count-frames E (frameAt E n q v) (q .frames))
 
   pub count-steps : (xs : List (Call S)) (v : ℕ) (r : Run) → framesRendered (run E n xs r .log) ≡ framesRendered (r .log) + frameCount (feed E n v xs r)

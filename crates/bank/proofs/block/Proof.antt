@@ -12,7 +12,8 @@ use Rattle.voices.specs.Calls.{fine, BlockRun, callBlock, verdict, rendered, cu
 use Rattle.voices.specs.Accepted.{BlockAccepted, block-accepted}
 use Rattle.checks.specs.Setup.{soloOf, engine}
 use Rattle.checks.specs.Checks.{bankOf, blockFrom}
-use Rattle.checks.specs.Accepted.{SetupAccepted, setup-accepted, refused-by, fine-by}
+use Rattle.setups.specs.Accepted.{SetupAccepted, setup-accepted}
+use Rattle.checks.specs.Accepted.{refused-by, fine-by}
 use Rattle.bank.specs.Bank.{answerOf, cursorOf}
 use Rattle.bank.proofs.block.Statement.{statement}
 use Rattle.bank.proofs.block.Tie as tie

@@ -15,7 +15,7 @@ use Rattle.voices.specs.Calls.{targetsWidth, Bank, setOf, startOf, openOf}
 use Rattle.checks.specs.declared.Setup.{Setup}
 use Rattle.checks.specs.Setup.{engine}
 use Rattle.checks.specs.Checks.{bankOf}
-use Rattle.checks.specs.Accepted.{setup-accepted}
+use Rattle.setups.specs.Accepted.{setup-accepted}
 use Rattle.bank.proofs.open_voices.Statement.{statement}
 use Rattle.bank.proofs.open_voices.Tie as tie
 

@@ -15,7 +15,7 @@ use Rattle.lane.specs.Floats.{zero}
 use Rattle.slots.specs.Frame.{targets-piece}
 use Rattle.checks.specs.Setup.{engine}
 use Rattle.checks.specs.Checks.{bankOf}
-use Rattle.checks.specs.Accepted.{setup-accepted}
+use Rattle.setups.specs.Accepted.{setup-accepted}
 use Rattle.bank.proofs.start_voice.Statement.{statement}
 use Rattle.bank.proofs.start_voice.Tie as tie
 

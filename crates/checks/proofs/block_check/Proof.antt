@@ -10,12 +10,13 @@ use borrow.Author.Needs.{needs}
 use lib.Dec.{leb, eqb}
 use lib.ListN.{length}
 use denote.Ref.{now}
-use Rattle.slots.specs.Engine.{within}
+use Rattle.setups.specs.Setup.{within}
 use Rattle.voices.specs.Calls.{fine, check, openVerdict}
 use Rattle.voices.specs.Accepted.{then-fine, and-true}
 use Rattle.checks.specs.Setup.{soloOf, engine}
 use Rattle.checks.specs.Checks.{checkOf, bankOf}
-use Rattle.checks.specs.Accepted.{SetupAccepted, setup-accepted, refused-by, fine-by}
+use Rattle.setups.specs.Accepted.{SetupAccepted, setup-accepted}
+use Rattle.checks.specs.Accepted.{refused-by, fine-by}
 use Rattle.checks.proofs.Laws.{passes, fails, after-two-refused, third-refused, after-three-fine}
 use Rattle.checks.proofs.block_check.Statement.{statement}
 use Rattle.checks.proofs.block_check.Tie as tie

@@ -1,7 +1,7 @@
 -- `checks::reference_refused` meets its contract: by the three tests, where `x != x` is the test for a NaN.
 use lib.Ieee.{ofBits, round}
 use Rattle.bits.specs.Nan.{nan-is}
-use Rattle.slots.specs.Engine.{referenceRefused}
+use Rattle.setups.specs.Setup.{referenceRefused}
 use Rattle.checks.proofs.reference_refused.Statement.{statement}
 use Rattle.checks.proofs.reference_refused.Tie as tie
 

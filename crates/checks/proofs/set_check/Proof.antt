@@ -6,7 +6,8 @@ use borrow.Author.Needs.{needs}
 use Rattle.voices.specs.Calls.{check, _then_}
 use Rattle.checks.specs.Setup.{soloOf}
 use Rattle.checks.specs.Checks.{checkOf}
-use Rattle.checks.specs.Accepted.{SetupAccepted, setup-accepted, refused-by, fine-by}
+use Rattle.setups.specs.Accepted.{SetupAccepted, setup-accepted}
+use Rattle.checks.specs.Accepted.{refused-by, fine-by}
 use Rattle.checks.proofs.Laws.{after-refused}
 use Rattle.checks.proofs.set_check.Statement.{statement}
 use Rattle.checks.proofs.set_check.Tie as tie

@@ -4,7 +4,7 @@ use mathlib.Core.Bool.{true, false}
 use native.Mathlib.Omega.{arith}
 use borrow.Author.Tests.{le-leb, lt-leb}
 use Rattle.lines.specs.Lines.{rateRefused}
-use Rattle.slots.specs.Engine.{referenceRefused, within, setupCheckOf}
+use Rattle.setups.specs.Setup.{referenceRefused, within, setupCheckOf}
 use Rattle.voices.specs.Calls.{check, _then_}
 use Rattle.checks.specs.Checks.{checkOf}
 use Rattle.checks.proofs.Laws.{passes, fails}

@@ -1,0 +1,119 @@
+//! Files of cases on parked files: banks parked and files restored, with their answers. What is asked is copied, the answers recomputed.
+
+use crate::numbers::{answers, canonical, refused, runs, sums};
+use crate::parked::{self, Restored};
+use crate::replay::Replayed;
+use crate::words::{quoted, Lines, Words, Wrong};
+use sentivolus::{Setup, Table};
+
+/// The requests in force in the files that this replays: a bank is parked in edition one, with two axes and no chord, whose offsets are then these.
+const STAGE: &str = "12";
+const OFFSETS: &str = "00000000*8";
+
+/// A list of more runs is answered by its sums.
+const MOST_RUNS: usize = 120;
+
+/// The bank that a `park` line parks, the file that a `restore` line restores, and the last file that was answered.
+struct Case {
+    bank: Restored,
+    file: Vec<u8>,
+    last: Vec<u8>,
+}
+
+impl Case {
+    fn new() -> Self {
+        let setup = Setup { code: 0, rate: 0.0, reference: 0.0, voices: 0, channels: 0, clean: false, table: Table::default() };
+        Case { bank: Restored { setup, cursor: 0, lists: [vec![], vec![], vec![]] }, file: vec![], last: vec![] }
+    }
+
+    fn park(&mut self, w: &mut Words) -> Result<String, Wrong> {
+        w.one_of("edition 1", &["1"])?;
+        let length = w.length()?;
+        w.end()?;
+        let [targets, records, delay] = &self.bank.lists;
+        let (given, wrong) = parked::park(&self.bank.setup, self.bank.cursor, [targets, records, delay], length);
+        Ok(match given {
+            Err(r) => refused(r, &wrong),
+            Ok(file) => {
+                let words = parked::words(&file);
+                self.last = file;
+                format!("= ok{wrong}\n{}", listed("f", "h", &words))
+            }
+        })
+    }
+
+    fn restore(&self, w: &mut Words) -> Result<String, Wrong> {
+        let lengths = [w.length()?, w.length()?, w.length()?];
+        w.end()?;
+        let (given, wrong) = parked::restore(&self.file, lengths);
+        Ok(match given { Err(r) => refused(r, &wrong), Ok(bank) => format!("= ok{wrong}\n{}", image(&bank)) })
+    }
+}
+
+/// A list under its letter, or its sums under another.
+fn listed(letter: &str, long: &str, words: &[u32]) -> String {
+    let text = runs(words);
+    if text.matches(' ').count() > MOST_RUNS { format!("{long}{}\n", sums(words)) } else { format!("{letter}{text}\n") }
+}
+
+/// A restored bank, as `image` and the five lines after it have it.
+fn image(b: &Restored) -> String {
+    let (t, [targets, records, delay]) = (&b.setup.table, &b.lists);
+    let numbers = |letter: &str, list: &[f32]| listed(letter, &format!("{letter}h"), &answers(list));
+    format!("i {} {} {} {:08x} 2 0\n{}c {OFFSETS}\n{}{}{}", parked::setup_text(&b.setup), b.cursor, t.active, canonical(t.gain),
+        numbers("n", &t.sections), numbers("t", targets), numbers("r", records), numbers("d", delay))
+}
+
+/// The rest of an `image` line and the five lines after it.
+fn read_image(w: &mut Words, lines: &mut Lines, out: &mut Replayed) -> Result<Restored, Wrong> {
+    let mut setup = Setup {
+        code: w.u32()?,
+        rate: w.float()?,
+        reference: w.float()?,
+        voices: w.whole()?,
+        channels: w.whole()?,
+        clean: w.mark()?,
+        table: Table::default(),
+    };
+    let cursor = w.whole()?;
+    (setup.table.active, setup.table.gain) = (w.u32()?, w.float()?);
+    w.one_of("two axes", &["2"])?;
+    w.one_of("no chord", &["0"])?;
+    w.end()?;
+    let mut line = |letter: &str| out.take(lines, &format!("the image's line {letter}"), letter);
+    let mut w = line("n")?;
+    let sections = w.list()?;
+    setup.table.sections = sections.try_into().map_err(|s: Vec<f32>| w.wrong("160 numbers", &s.len().to_string()))?;
+    let mut w = line("c")?;
+    w.one_of(OFFSETS, &[OFFSETS])?;
+    w.end()?;
+    Ok(Restored { setup, cursor, lists: [line("t")?.list()?, line("r")?.list()?, line("d")?.list()?] })
+}
+
+/// Lines of answers, by their first word; those of an image are read with it.
+fn is_answer(line: &str) -> bool {
+    matches!(line.split(' ').next(), Some("=" | "f" | "h" | "i" | "n" | "nh" | "c" | "t" | "th" | "r" | "rh" | "d" | "dh"))
+}
+
+pub fn replay(text: &str) -> Result<Replayed, Wrong> {
+    let mut out = Replayed::default();
+    let mut case = Case::new();
+    let mut lines = Lines::of(text);
+    while let Some(mut w) = lines.next() {
+        if is_answer(w.line) { continue; }
+        out.copy(w.line);
+        if w.line.is_empty() || w.line.starts_with('#') { continue; }
+        match w.name() {
+            "stage" => { w.one_of(&format!("stage {STAGE}"), &[STAGE])?; w.end()?; }
+            "case" => case = Case::new(),
+            "image" => case.bank = read_image(&mut w, &mut lines, &mut out)?,
+            "file" => case.file = w.bits_list()?.into_iter().flat_map(u32::to_le_bytes).collect(),
+            "bytes" => { case.file.truncate(w.whole()?); w.end()?; }
+            "take" => { case.file = case.last.clone(); w.end()?; }
+            "park" => out.answer(&case.park(&mut w)?),
+            "restore" => out.answer(&case.restore(&mut w)?),
+            name => return Err(w.wrong("a line of a case, an answer or a comment", &quoted(name))),
+        }
+    }
+    Ok(out)
+}

@@ -1,0 +1,3 @@
+-- To be read: Blocks.
+pub mod Blocks
+pub mod Laws

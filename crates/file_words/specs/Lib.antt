@@ -1,0 +1,3 @@
+-- To be read: Words.
+pub mod Words
+pub mod Laws

@@ -1,0 +1,4 @@
+pub mod Reading
+pub mod Surveying
+pub mod Restoring
+pub mod Writing
