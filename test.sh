@@ -31,8 +31,8 @@ fi
 
 log=$(mktemp)
 trap 'rm -f "$log"' EXIT
-# more jobs than cores, since rt waits for a whole batch
-RT_JOBS=${RT_JOBS:-6} rt ci | tee "$log"
+# one job more than cores, since rt waits for a whole batch
+RT_JOBS=${RT_JOBS:-3} rt ci | tee "$log"
 read -r n _ m _ < <(tail -n 1 "$log")
 case "$n$m" in *[!0-9]* | '') n=0 m=1 ;; esac
 passed=$((passed + n)) failed=$((failed + m))
