@@ -76,5 +76,6 @@ feed-computes : (t : Table)
     → feed (engine (setup t)) 2 1 calls (opened (engine (setup t)) 2 lists)
     ≡ eventSet defaultParams ∷ eventStart ∷ eventFrame frame0 ∷ eventFrame frame1 ∷ []
 unfolding setup lists setupCheckOf referenceRefused rateRefused ringLen nextPower check _then_ isNan lt round size mul toUnsigned
-    restoreVerdict fileVerdict soundFile every isOnce count block calls frame0 frame1 openOf startOf startSlot setOf piece patch nanKnob defaultParams voiceTargets targetsOf morphTargetsOf
+    restoreVerdict fileVerdict soundFile every isOnce count block calls frame0 frame1 openOf startOf startSlot setOf piece patch
+    nanKnob defaultParams voiceTargets targetsOf morphTargetsOf
 feed-computes t = refl

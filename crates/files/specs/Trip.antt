@@ -144,7 +144,8 @@ module _ (im : Image) where
         ∙ ap (λ (j : ℕ). getD (im .setup) j 0) (div-add-mod' i 126)
 
     -- a list whose blocks, of one kind, stand from block `first` on
-    list-back : (first kind L p rows : ℕ) (xs : List Float) → 0 < L → L ≤ p * 126 → length xs ≡ rows * L → F32s xs → first + rows * p ≤ blocksOf im
+    list-back : (first kind L p rows : ℕ) (xs : List Float) → 0 < L → L ≤ p * 126 → length xs ≡ rows * L → F32s xs
+        → first + rows * p ≤ blocksOf im
         → ((j : ℕ) → j < rows * p → headAt (im .v) (im .s) (im .p) (first + j) ≡ headOf kind (j / p) (j % p))
         → ((j : ℕ) → j < rows * p → contentOf im (first + j) ≡ partWords L p xs j)
         → numbersIn F kind L (rows * L) ≡ xs

@@ -32,7 +32,7 @@ fn pick(yes: bool, n: usize, other: usize) -> usize
     if yes { n } else { other }
 }
 
-fn slim(w: u32) -> usize
+fn wide(w: u32) -> usize
     ensures { λ r. ⌜ (r ≡ w) × (r ≤ 4294967295) ⌝ }
 {
     w as usize
@@ -83,7 +83,7 @@ fn mark_all(file: &[u8], z: Sizes, n: usize, pos: &mut [u16]) -> bool
     let blocks = file.len() / 512;
     let mut b = 0;
     while b < blocks {
-        let k = index_of(z, slim(file_words::get_word(file, b * 128)));
+        let k = index_of(z, wide(file_words::get_word(file, b * 128)));
         if k >= n {
             return false;
         }

@@ -25,17 +25,17 @@ mul-get-word c = omega arith
 get-word-requires : tie.Need-get-word-requires Inv-loop μ-loop
 get-word-requires c κs = omega arith
 
-slim-requires : tie.Need-slim-requires Inv-loop μ-loop
-slim-requires c κs = tt
+wide-requires : tie.Need-wide-requires Inv-loop μ-loop
+wide-requires c κs = tt
 
 index-of-requires : tie.Need-index-of-requires Inv-loop μ-loop
-index-of-requires c κs = (c .before .before .before .before .before .before .pre .0, c .slim .ensures .1)
+index-of-requires c κs = (c .before .before .before .before .before .before .pre .0, c .wide .ensures .1)
 
 same-length : tie.Need-same-length Inv-loop μ-loop
 same-length c = c .before .before .before .before .before .loop .inv .1
 
 returns : tie.Need-returns Inv-loop μ-loop
-returns c = entered-unknown _ _ _ _ _ _ (number-is _ _ _ _ _ _ _ _ (c .before .index-of .ensures) (c .before .before .slim .ensures .0) (c .before .before .before .get-word .ensures)) (c .before .before .before .before .loop-test .taken) (c .if1 .taken) (omega arith)
+returns c = entered-unknown _ _ _ _ _ _ (number-is _ _ _ _ _ _ _ _ (c .before .index-of .ensures) (c .before .before .wide .ensures .0) (c .before .before .before .get-word .ensures)) (c .before .before .before .before .loop-test .taken) (c .if1 .taken) (omega arith)
 
 mul-if2 : tie.Need-mul-if2 Inv-loop μ-loop
 mul-if2 c = omega arith
@@ -47,7 +47,7 @@ same-length-2 : tie.Need-same-length-2 Inv-loop μ-loop
 same-length-2 c = c .before .before .before .before .before .before .before .loop .inv .1
 
 returns-2 : tie.Need-returns-2 Inv-loop μ-loop
-returns-2 c = entered-doubled _ _ _ _ _ _ (c .before .before .before .before .before .before .before .loop .inv .2) (number-is _ _ _ _ _ _ _ _ (c .before .before .before .index-of .ensures) (c .before .before .before .before .slim .ensures .0) (c .before .before .before .before .before .get-word .ensures)) (c .before .before .before .before .before .before .loop-test .taken) (omega arith) (c .if2 .taken) (omega arith)
+returns-2 c = entered-doubled _ _ _ _ _ _ (c .before .before .before .before .before .before .before .loop .inv .2) (number-is _ _ _ _ _ _ _ _ (c .before .before .before .index-of .ensures) (c .before .before .before .before .wide .ensures .0) (c .before .before .before .before .before .get-word .ensures)) (c .before .before .before .before .before .before .loop-test .taken) (omega arith) (c .if2 .taken) (omega arith)
 
 add-short : tie.Need-add-short Inv-loop μ-loop
 add-short c = omega arith
@@ -71,7 +71,7 @@ loop-again : tie.Need-loop-again Inv-loop μ-loop
 loop-again c = (
   omega arith,
   simp length-set (c .before .before .before .before .before .before .before .before .loop .inv .1),
-  entered-more _ _ _ _ _ _ (c .before .before .before .before .before .before .before .before .loop .inv .2) (number-is _ _ _ _ _ _ _ _ (c .before .before .before .before .index-of .ensures) (c .before .before .before .before .before .slim .ensures .0) (c .before .before .before .before .before .before .get-word .ensures)) (omega arith) (c .before .if2 .left) (omega arith) (c .short .ensures),
+  entered-more _ _ _ _ _ _ (c .before .before .before .before .before .before .before .before .loop .inv .2) (number-is _ _ _ _ _ _ _ _ (c .before .before .before .before .index-of .ensures) (c .before .before .before .before .before .wide .ensures .0) (c .before .before .before .before .before .before .get-word .ensures)) (omega arith) (c .before .if2 .left) (omega arith) (c .short .ensures),
 )
 
 same-length-3 : tie.Need-same-length-3 Inv-loop μ-loop
@@ -89,7 +89,7 @@ mark-all-spec =
     loop-holds
     mul-get-word
     get-word-requires
-    slim-requires
+    wide-requires
     index-of-requires
     same-length
     returns
