@@ -59,7 +59,7 @@ extern "C" {
 
 /* 10,000 x major + 100 x minor + patch. It grows with every change of a call, a struct or a layout; sentivolus_version() gives that of the
  * archive. */
-#define SENTIVOLUS_VERSION 400
+#define SENTIVOLUS_VERSION 500
 
 enum {
     SENTIVOLUS_MOST_VOICES = 16,
@@ -289,16 +289,15 @@ float sentivolus_read(const float *buf, size_t buf_len, size_t len, size_t curso
 /* One state-variable stage with gain g and damping k: band, low, and the states ic1 and ic2 after it. */
 void sentivolus_svf(float ic1, float ic2, float x, float g, float k, float out[4]);
 
-/* The float functions that the filters are made of, for comparison by running. openings is the table that sentivolus_openings writes. */
+/* The float functions that the filters are made of, for comparison by running. */
 float sentivolus_max(float a, float b);  /* of a NaN and a number the number, of two zeros the first; so min */
 float sentivolus_min(float a, float b);
 float sentivolus_exp2(float v);          /* v held to -12 .. 12, NaN as -12 */
 float sentivolus_tan(float w);           /* near tan(w) for 0 .. 0.49 pi */
 float sentivolus_soft_clip(float x);     /* x held to -3 .. 3, NaN as -3 */
-void sentivolus_openings(uint8_t openings[1024]);
-float sentivolus_root(float x, const uint8_t openings[1024]); /* the f32 nearest the square root; NaN below 0 */
+float sentivolus_root(float x);          /* the f32 nearest the square root; NaN below 0 */
 float sentivolus_log2(float q);          /* of 1/64 to below 64, in steps of 2^-20; 0 elsewhere */
-float sentivolus_saturation_gain(float x, float inv_a, const uint8_t openings[1024]); /* of a level x, with one over the knee */
+float sentivolus_saturation_gain(float x, float inv_a); /* of a level x, with one over the knee */
 float sentivolus_asym(float x);          /* the asymmetric shaper */
 float sentivolus_hermite(float newer, float p0, float p1, float older, float t); /* the cubic from p0 (t = 0) to p1 (t = 1) */
 

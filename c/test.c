@@ -265,6 +265,7 @@ static void arguments(void)
     check(!render(t, SLOTS) && t->bank.cursor == FRAMES, "the cursor moves", 0);
     t->setup.table = sentivolus_design_table(&design);
     check(t->setup.table.active == 8 && t->setup.table.gain == 1, "a design's table", 0);
+    check(sentivolus_root(2) == sqrtf(2) && sentivolus_saturation_gain(3, 0.25f) == 0.8f, "a root and a saturation gain", 0);
 }
 
 /* Whether the counts are these, voice 0's on both channels, and nothing is written after them. */

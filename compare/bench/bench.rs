@@ -23,9 +23,8 @@ unsafe extern "C" {
     fn sentivolus_restore(file: *const u8, file_len: usize, targets: *mut f32, targets_len: usize, records: *mut f32, records_len: usize,
         delay: *mut f32, delay_len: usize, code: *mut u32, rate: *mut f32, reference: *mut f32, voices: *mut usize, channels: *mut usize,
         clean: *mut bool, active: *mut u32, sections: *mut f32, gain: *mut f32, cursor: *mut usize) -> u32;
-    fn sentivolus_openings(t: *mut [u8; 1024]);
-    fn sentivolus_root(x: f32, t: *const [u8; 1024]) -> f32;
-    fn sentivolus_saturation_gain(x: f32, inv_a: f32, t: *const [u8; 1024]) -> f32;
+    fn sentivolus_root(x: f32) -> f32;
+    fn sentivolus_saturation_gain(x: f32, inv_a: f32) -> f32;
     fn sentivolus_soft_clip(x: f32) -> f32;
     fn sentivolus_gain(pitch: f32, reference: f32) -> f32;
     fn sentivolus_read(buf: *const f32, buf_len: usize, len: usize, cursor: usize, slot: usize, delay: f32) -> f32;
@@ -49,11 +48,9 @@ fn leaf(call: &dyn Fn(f32) -> f32, low: f32, high: f32) -> f64 {
 /// Where a voice-sample's time goes, by ablation: a PoleZero without sections has the smoothing, steering, lag, drive, mix and level
 /// alone; a moving pitch adds what follows from the pitch; the leaves are timed by themselves.
 fn parts(millis: u128) {
-    let mut t = [0u8; 1024];
-    unsafe { sentivolus_openings(&mut t) };
     let ring = vec![0.25f32; 8192];
     let gain = leaf(&|x| unsafe { sentivolus_gain(x, 440.0 / 48000.0) }, 50.0, 90.0);
-    let saturation = leaf(&|x| unsafe { sentivolus_saturation_gain(x, 0.5, &t) }, -3.0, 3.0);
+    let saturation = leaf(&|x| unsafe { sentivolus_saturation_gain(x, 0.5) }, -3.0, 3.0);
     let clip = leaf(&|x| unsafe { sentivolus_soft_clip(x) }, -3.0, 3.0);
     let read = leaf(&|x| unsafe { sentivolus_read(ring.as_ptr(), 8192, 8192, 77, 0, x) }, 10.0, 400.0);
     println!("Leaves, ns a call: gain (exp2 and tan) {gain:.1}, saturation_gain (root) {saturation:.1}, soft_clip {clip:.1}, read {read:.1}\n");
@@ -73,23 +70,73 @@ fn parts(millis: u128) {
     println!();
 }
 
-/// ns a root in a dependent chain: ours and the machine's.
-fn roots() -> (f64, f64) {
-    let mut t = [0u8; 1024];
-    unsafe { sentivolus_openings(&mut t) };
+const ROOTS: [&str; 3] = ["in a dependent chain (with a product and a sum)", "of 1 to 4, calls independent", "of 4 to 1,000, calls independent"];
+
+/// ns a root, in the order of `ROOTS`. The independent calls write their answers to an array.
+fn time_roots(root: impl Fn(f32) -> f32) -> [f64; 3] {
     let n = 100_000;
-    let chain = |root: &dyn Fn(f32) -> f32| {
-        let mut best = f64::MAX;
-        for _ in 0..40 {
-            let begun = Instant::now();
-            let mut y = std::hint::black_box(1.25f32);
-            for _ in 0..n { y = root(y * 1.75 + 0.375); }
-            std::hint::black_box(y);
-            best = best.min(begun.elapsed().as_nanos() as f64 / n as f64);
-        }
-        best
+    let ns = |begun: Instant| begun.elapsed().as_nanos() as f64 / n as f64;
+    let independent = |low: f32, high: f32| {
+        let mut r = generate::Rng::new(9);
+        let inputs: Vec<f32> = (0..n).map(|_| r.range(low, high)).collect();
+        let mut answers = inputs.clone();
+        let begun = Instant::now();
+        for (y, x) in answers.iter_mut().zip(&inputs) { *y = root(*x); }
+        std::hint::black_box(&mut answers);
+        let time = ns(begun);
+        assert!(inputs.iter().zip(&answers).all(|(x, y)| x.sqrt() == *y));
+        time
     };
-    (chain(&|x| unsafe { sentivolus_root(x, &t) }), chain(&|x| x.sqrt()))
+    let begun = Instant::now();
+    let mut y = std::hint::black_box(1.25f32);
+    for _ in 0..n { y = root(y * 1.75 + 0.375); }
+    std::hint::black_box(y);
+    [ns(begun), independent(1.0, 4.0), independent(4.0, 1000.0)]
+}
+
+fn time_ours() -> [f64; 3] { time_roots(|x| unsafe { sentivolus_root(x) }) }
+
+/// The same of an earlier archive. Up to version 400 its root took a table: entry j the whole root of 64 j.
+#[cfg(before)]
+fn time_before() -> [f64; 3] {
+    unsafe extern "C" { fn before_sentivolus_root(); fn before_sentivolus_version() -> u32; }
+    let name = before_sentivolus_root as *const ();
+    unsafe {
+        if before_sentivolus_version() <= 400 {
+            let openings: [u8; 1024] = std::array::from_fn(|j| (64 * j).isqrt() as u8);
+            let root = std::mem::transmute::<_, unsafe extern "C" fn(f32, *const [u8; 1024]) -> f32>(name);
+            time_roots(|x| root(x, &openings))
+        } else {
+            let root = std::mem::transmute::<_, unsafe extern "C" fn(f32) -> f32>(name);
+            time_roots(|x| root(x))
+        }
+    }
+}
+
+/// The machine's root, called as ours is: one at a time.
+fn time_machine() -> [f64; 3] {
+    #[inline(never)]
+    fn root(x: f32) -> f32 { x.sqrt() }
+    time_roots(root)
+}
+
+/// Best of several runs of each, taking turns.
+fn measure_roots<const N: usize>(times: [fn() -> [f64; 3]; N]) -> [[f64; 3]; N] {
+    let mut best = [[f64::MAX; 3]; N];
+    for _ in 0..200 {
+        for (time, best) in times.iter().zip(&mut best) {
+            for (best, ns) in best.iter_mut().zip(time()) { *best = best.min(ns); }
+        }
+    }
+    best
+}
+
+fn roots() {
+    let [ours, machine] = measure_roots([time_ours, time_machine]);
+    println!();
+    for ((what, a), b) in ROOTS.iter().zip(ours).zip(machine) {
+        println!("Root {what}: {a:.1} ns, the machine's {b:.1} ns ({:.1} times)", a / b);
+    }
 }
 
 struct Case { engine: Engine, frames: usize, pitch: Vec<f32>, audio: Vec<f32> }
@@ -351,6 +398,12 @@ fn before(millis: u128) {
             println!("{row} |");
         }
     }
+    let [before, after, machine] = measure_roots([time_before, time_ours, time_machine]);
+    println!();
+    for (i, what) in ROOTS.iter().enumerate() {
+        let (a, b, c) = (before[i], after[i], machine[i]);
+        println!("Root {what}: before {a:.1} ns, after {b:.1} ns, the machine's {c:.1} ns (after over before {:.3})", b / a);
+    }
 }
 
 fn growth(millis: u128) {
@@ -384,8 +437,7 @@ pub fn main() {
 fn every(millis: u128) {
     parts(millis);
     grid(millis);
-    let (a, b) = roots();
-    println!("\nRoot in a dependent chain (with a product and a sum): {a:.1} ns, the machine's {b:.1} ns ({:.1} times)", a / b);
+    roots();
     growth(millis);
     println!();
     silence(millis);

@@ -6,29 +6,29 @@ use crate::words::{Lines, Words, Wrong};
 use sentivolus::{Design, VoiceParams};
 
 /// Reads a leaf's inputs and gives its answer.
-type Leaf = fn(&mut Words, &[u8; 1024]) -> Result<String, Wrong>;
+type Leaf = fn(&mut Words) -> Result<String, Wrong>;
 
 const LEAVES: [(&str, Leaf); 20] = [
-    ("max", |w, _| w.floats().map(|[a, b]| text(&[sentivolus::max(a, b)]))),
-    ("min", |w, _| w.floats().map(|[a, b]| text(&[sentivolus::min(a, b)]))),
-    ("exp2", |w, _| w.float().map(|a| text(&[sentivolus::exp2(a)]))),
-    ("tan", |w, _| w.float().map(|a| text(&[sentivolus::tan(a)]))),
-    ("soft_clip", |w, _| w.float().map(|a| text(&[sentivolus::soft_clip(a)]))),
-    ("sqrt", |w, t| w.float().map(|a| text(&[sentivolus::root(a, t)]))),
-    ("log2", |w, _| w.float().map(|a| text(&[sentivolus::log2(a)]))),
-    ("asym", |w, _| w.float().map(|a| text(&[sentivolus::asym(a)]))),
-    ("saturation_gain", |w, t| w.floats().map(|[a, b]| text(&[sentivolus::saturation_gain(a, b, t)]))),
-    ("hermite", |w, _| w.floats().map(|[a, b, c, d, e]| text(&[sentivolus::hermite(a, b, c, d, e)]))),
-    ("ring_len", |w, _| w.float().map(|a| format!(" {}", sentivolus::ring_len(a)))),
-    ("ratio_of", |w, _| w.floats().map(|[a, b]| text(&[sentivolus::ratio_of(a, b)]))),
-    ("over", |w, _| w.floats().map(|[a, b]| format!(" {}", u8::from(sentivolus::over(a, b))))),
-    ("gain", |w, _| w.floats().map(|[a, b]| text(&[sentivolus::gain(a, b)]))),
-    ("svf", |w, _| w.floats().map(|[a, b, c, d, e]| text(&sentivolus::svf(a, b, c, d, e)))),
-    ("targets_of", |w, _| w.floats().map(|p| text(&sentivolus::targets_of(&VoiceParams::from_array(p))))),
-    ("point", |w, _| point(w).map(|(kind, [frequency, q, a, b])| text(&sentivolus::point(kind, frequency, q, a, b)))),
-    ("table", |w, _| design(w).map(|d| table(&d))),
-    ("section", |w, _| section(w)),
-    ("read", |w, _| read(w)),
+    ("max", |w| w.floats().map(|[a, b]| text(&[sentivolus::max(a, b)]))),
+    ("min", |w| w.floats().map(|[a, b]| text(&[sentivolus::min(a, b)]))),
+    ("exp2", |w| w.float().map(|a| text(&[sentivolus::exp2(a)]))),
+    ("tan", |w| w.float().map(|a| text(&[sentivolus::tan(a)]))),
+    ("soft_clip", |w| w.float().map(|a| text(&[sentivolus::soft_clip(a)]))),
+    ("sqrt", |w| w.float().map(|a| text(&[sentivolus::root(a)]))),
+    ("log2", |w| w.float().map(|a| text(&[sentivolus::log2(a)]))),
+    ("asym", |w| w.float().map(|a| text(&[sentivolus::asym(a)]))),
+    ("saturation_gain", |w| w.floats().map(|[a, b]| text(&[sentivolus::saturation_gain(a, b)]))),
+    ("hermite", |w| w.floats().map(|[a, b, c, d, e]| text(&[sentivolus::hermite(a, b, c, d, e)]))),
+    ("ring_len", |w| w.float().map(|a| format!(" {}", sentivolus::ring_len(a)))),
+    ("ratio_of", |w| w.floats().map(|[a, b]| text(&[sentivolus::ratio_of(a, b)]))),
+    ("over", |w| w.floats().map(|[a, b]| format!(" {}", u8::from(sentivolus::over(a, b))))),
+    ("gain", |w| w.floats().map(|[a, b]| text(&[sentivolus::gain(a, b)]))),
+    ("svf", |w| w.floats().map(|[a, b, c, d, e]| text(&sentivolus::svf(a, b, c, d, e)))),
+    ("targets_of", |w| w.floats().map(|p| text(&sentivolus::targets_of(&VoiceParams::from_array(p))))),
+    ("point", |w| point(w).map(|(kind, [frequency, q, a, b])| text(&sentivolus::point(kind, frequency, q, a, b)))),
+    ("table", |w| design(w).map(|d| table(&d))),
+    ("section", section),
+    ("read", read),
 ];
 
 pub fn names() -> impl Iterator<Item = &'static str> { LEAVES.iter().map(|(name, _)| *name) }
@@ -74,22 +74,21 @@ fn read(w: &mut Words) -> Result<String, Wrong> {
     Ok(text(&[sentivolus::read(&cells, len, cursor, slot, delay)]))
 }
 
-fn row(w: &mut Words, openings: &[u8; 1024]) -> Result<String, Wrong> {
+fn row(w: &mut Words) -> Result<String, Wrong> {
     let leaf = w.read("a leaf's name", |name| LEAVES.iter().find(|(n, _)| *n == name))?.1;
-    let answer = leaf(w, openings)?;
+    let answer = leaf(w)?;
     w.end_or_answer()?;
     Ok(format!(" ={answer}\n"))
 }
 
 pub fn replay(text: &str) -> Result<Replayed, Wrong> {
-    let openings = sentivolus::openings();
     let mut out = Replayed::default();
     for mut w in Lines::of(text) {
         if w.line.is_empty() || w.line.starts_with('#') {
             out.copy(w.line);
             continue;
         }
-        let answer = row(&mut w, &openings)?;
+        let answer = row(&mut w)?;
         out.text += w.line.split(" =").next().unwrap_or("");
         out.answer(&answer);
     }

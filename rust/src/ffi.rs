@@ -40,10 +40,9 @@ extern "C" {
     pub fn sentivolus_exp2(v: f32) -> f32;
     pub fn sentivolus_tan(w: f32) -> f32;
     pub fn sentivolus_soft_clip(x: f32) -> f32;
-    pub fn sentivolus_openings(t: *mut [u8; 1024]);
-    pub fn sentivolus_root(x: f32, t: *const [u8; 1024]) -> f32;
+    pub fn sentivolus_root(x: f32) -> f32;
     pub fn sentivolus_log2(q: f32) -> f32;
-    pub fn sentivolus_saturation_gain(x: f32, inv_a: f32, t: *const [u8; 1024]) -> f32;
+    pub fn sentivolus_saturation_gain(x: f32, inv_a: f32) -> f32;
     pub fn sentivolus_asym(x: f32) -> f32;
     pub fn sentivolus_hermite(newer: f32, p0: f32, p1: f32, older: f32, t: f32) -> f32;
     pub fn sentivolus_ring_len(rate: f32) -> usize;

@@ -34,18 +34,10 @@ pub fn soft_clip(x: f32) -> f32 {
     ieee(|| unsafe { ffi::sentivolus_soft_clip(x) })
 }
 
-/// The root's table of openings.
-pub fn openings() -> [u8; 1024] {
-    let mut t = [0; 1024];
-    // SAFETY: `t` has the 1,024 bytes that are written.
-    ieee(|| unsafe { ffi::sentivolus_openings(&mut t) });
-    t
-}
-
-/// The f32 nearest the square root, by a table from [`openings`].
-pub fn root(x: f32, t: &[u8; 1024]) -> f32 {
-    // SAFETY: `t` has the 1,024 bytes that are read.
-    ieee(|| unsafe { ffi::sentivolus_root(x, t) })
+/// The f32 nearest the square root; NaN below 0.
+pub fn root(x: f32) -> f32 {
+    // SAFETY: numbers alone.
+    ieee(|| unsafe { ffi::sentivolus_root(x) })
 }
 
 /// The logarithm to base 2 of a number from 1/64 to below 64, in steps of 2^-20; 0 elsewhere.
@@ -54,10 +46,10 @@ pub fn log2(q: f32) -> f32 {
     ieee(|| unsafe { ffi::sentivolus_log2(q) })
 }
 
-/// The resonance saturator's gain, by a table from [`openings`].
-pub fn saturation_gain(x: f32, inv_a: f32, t: &[u8; 1024]) -> f32 {
-    // SAFETY: `t` has the 1,024 bytes that are read.
-    ieee(|| unsafe { ffi::sentivolus_saturation_gain(x, inv_a, t) })
+/// The resonance saturator's gain of a level, with one over the knee.
+pub fn saturation_gain(x: f32, inv_a: f32) -> f32 {
+    // SAFETY: numbers alone.
+    ieee(|| unsafe { ffi::sentivolus_saturation_gain(x, inv_a) })
 }
 
 /// extended.rs's asymmetric shaper.

@@ -34,7 +34,7 @@ mod refusal;
 pub use bank::Bank;
 pub use calls::{block, block_marked, open, set, start, version, Block, Setup, Structure, VoiceParams};
 pub use design::{point, section, table, Design, Point, PointKind, Table};
-pub use leaves::{asym, exp2, gain, hermite, log2, max, min, openings, over, ratio_of, read, ring_len};
+pub use leaves::{asym, exp2, gain, hermite, log2, max, min, over, ratio_of, read, ring_len};
 pub use leaves::{root, saturation_gain, soft_clip, svf, tan, targets_of};
 pub use parking::{park, park_len, parked_setup, restore};
 pub use refusal::Refusal;

@@ -123,7 +123,7 @@ pub fn start(
 }
 
 // Renders a block: every slot, frame by frame, in place. C-11: counts, one number a slot, becomes how often a ratio was greater than its
-// cap in this block. The root's table and the constants are made once.
+// cap in this block. The constants are made once.
 pub fn block(
     setup: Setup,
     cursor: usize,
@@ -161,7 +161,6 @@ pub fn block(
     }
     let table = setup.table;
     let sections = table.sections;
-    let roots = sqrt::openings();
     let prepared = Prepared {
         m: Structure {
             code: setup.code,
@@ -183,7 +182,6 @@ pub fn block(
     slots::run_block(
         prepared,
         &sections,
-        &roots,
         targets,
         records,
         delay,

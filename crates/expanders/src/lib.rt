@@ -1,5 +1,5 @@
 // The expanders and the K35. Each has what follows from the pitch and the settings alone, in a struct of its name, and the step over
-// the input and the states. `t` is the root's table.
+// the input and the states.
 ghost use mathlib.Core.Path.{_≡_};
 ghost use Rattle.filter.specs.declared.Pitch.{Pitch};
 ghost use Rattle.filter.specs.Filter.{gainOf};
@@ -65,10 +65,10 @@ fn expander_solve(c: Expander, state: &[f32; 20], k: f32, x: f32) -> Five
     Five(u, t1, t2, t3, c.gg * t3 + b3)
 }
 
-fn expander_taps(c: Expander, state: &[f32; 20], x: f32, t: &[u8; 1024]) -> Five
+fn expander_taps(c: Expander, state: &[f32; 20], x: f32) -> Five
     ensures { λ r. ⌜ r ≡ expanderTaps c (now (state .entry)) x ⌝ }
 {
-    let k = c.base * lane::saturation_gain(state[4], c.inv_knee, t);
+    let k = c.base * lane::saturation_gain(state[4], c.inv_knee);
     expander_solve(c, state, k, x)
 }
 
@@ -91,10 +91,10 @@ fn band_mix(t: Five) -> f32
 }
 
 // The band-pass, 4 (y2 - 2 y3 + y4). State: 0 to 3 the stages, 4 the previous fourth-stage output.
-pub fn band_step(c: Expander, state: &mut [f32; 20], x: f32, t: &[u8; 1024]) -> f32
+pub fn band_step(c: Expander, state: &mut [f32; 20], x: f32) -> f32
     ensures { λ r. ⌜ ticked r (now (state .exit)) ≡ bandStep c (now (state .entry)) x ⌝ }
 {
-    let taps = expander_taps(c, state, x, t);
+    let taps = expander_taps(c, state, x);
     stages::store_ladder(state, stages(taps));
     band_mix(taps)
 }
@@ -130,10 +130,10 @@ fn multimode_mix(w: Five, t: Five) -> f32
     w.4 * t.4 + out
 }
 
-pub fn multimode_step(c: Expander, w: Five, state: &mut [f32; 20], x: f32, t: &[u8; 1024]) -> f32
+pub fn multimode_step(c: Expander, w: Five, state: &mut [f32; 20], x: f32) -> f32
     ensures { λ r. ⌜ ticked r (now (state .exit)) ≡ multimodeStep c w (now (state .entry)) x ⌝ }
 {
-    let taps = expander_taps(c, state, x, t);
+    let taps = expander_taps(c, state, x);
     stages::store_ladder(state, stages(taps));
     multimode_mix(w, taps)
 }
@@ -231,14 +231,14 @@ fn k35_high(c: K35, s0: f32, s1: f32, s2: f32, k: f32, x: f32) -> Half35
 }
 
 // A half's feedback with the saturator, from its previous feedback.
-fn k35_feedback(c: K35, previous: f32, t: &[u8; 1024]) -> f32
+fn k35_feedback(c: K35, previous: f32) -> f32
     ensures { λ r. ⌜ r ≡ k35Feedback c previous ⌝ }
 {
-    c.base * lane::saturation_gain(previous, c.inv_knee, t)
+    c.base * lane::saturation_gain(previous, c.inv_knee)
 }
 
 // State: 0 to 2 the low-pass's stages, 3 its previous feedback; 4 to 6 the high-pass's, 7 its previous feedback.
-pub fn k35_step(c: K35, state: &mut [f32; 20], x: f32, t: &[u8; 1024]) -> f32
+pub fn k35_step(c: K35, state: &mut [f32; 20], x: f32) -> f32
     ensures { λ r. ⌜ ticked r (now (state .exit)) ≡ k35Step c (now (state .entry)) x ⌝ }
 {
     let l = k35_low(
@@ -246,7 +246,7 @@ pub fn k35_step(c: K35, state: &mut [f32; 20], x: f32, t: &[u8; 1024]) -> f32
         state[0],
         state[1],
         state[2],
-        k35_feedback(c, state[3], t),
+        k35_feedback(c, state[3]),
         x,
     );
     let h = k35_high(
@@ -254,7 +254,7 @@ pub fn k35_step(c: K35, state: &mut [f32; 20], x: f32, t: &[u8; 1024]) -> f32
         state[4],
         state[5],
         state[6],
-        k35_feedback(c, state[7], t),
+        k35_feedback(c, state[7]),
         x,
     );
     state[0] = l.s0;

@@ -137,11 +137,11 @@ pub fn svf_k(k0: f32, floor: f32, r: f32) -> f32
     lane::max(r * (-k0 * (1.0 + SVF_OVERSHOOT)) + k0, floor)
 }
 
-// The damping a resonant stage runs at; `t` is the root's table.
-pub fn saturated_k(k0: f32, k: f32, previous_band: f32, inv_knee: f32, t: &[u8; 1024]) -> f32
+// The damping a resonant stage runs at.
+pub fn saturated_k(k0: f32, k: f32, previous_band: f32, inv_knee: f32) -> f32
     ensures { λ r. ⌜ r ≡ saturatedK k0 k «previous_band» «inv_knee» ⌝ }
 {
-    (k - k0) * lane::saturation_gain(previous_band, inv_knee, t) + k0
+    (k - k0) * lane::saturation_gain(previous_band, inv_knee) + k0
 }
 
 // One voice's settings, other than cutoff.

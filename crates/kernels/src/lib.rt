@@ -41,13 +41,12 @@ fn weights_of(tuning: &[f32; 10]) -> Five
     Five(tuning[3], tuning[4], tuning[5], tuning[6], tuning[7])
 }
 
-// One tick of the structure `code`. `roots` is the root's table, `tuning` the numbers kept at this pitch and character, `blended`
+// One tick of the structure `code`. `tuning` holds the numbers kept at this pitch and character, `blended`
 // PoleZero's at this pitch, X and Y.
 pub fn kernel(
     code: u32,
     sections: &[f32; 160],
     series: Series,
-    roots: &[u8; 1024],
     tuning: &[f32; 10],
     blended: &[f32; 43],
     state: &mut [f32; 20],
@@ -63,42 +62,29 @@ pub fn kernel(
         (now (delay .entry)) at r (now (state .exit)) (now (delay .exit)) ⌝ }
 {
     match code {
-        1 => sweeps::buzz_step(sweeps::buzz_with(tuning[0], p), state, x, roots),
+        1 => sweeps::buzz_step(sweeps::buzz_with(tuning[0], p), state, x),
         2 => sweeps::dj_step(
             sweeps::dj_with(tuning[0], tuning[1], tuning[2], p),
             state,
             x,
         ),
         3 => sweeps::diffuser_step(sweeps::diffuser_with(tuning[0], p), state, x),
-        4 => ladders::transistor_step(ladders::transistor_with(tuning[0], p), state, x, roots),
-        5 => ladders::acid_step(ladders::acid_with(rows_of(tuning), p), state, x, roots),
-        6 => ladders::clean_ladder_step(
-            ladders::clean_ladder_with(rows_of(tuning), p),
-            state,
-            x,
-            roots,
-        ),
+        4 => ladders::transistor_step(ladders::transistor_with(tuning[0], p), state, x),
+        5 => ladders::acid_step(ladders::acid_with(rows_of(tuning), p), state, x),
+        6 => ladders::clean_ladder_step(ladders::clean_ladder_with(rows_of(tuning), p), state, x),
         7 => ladders::driven_step(
             ladders::driven_with(tuning[0], tuning[1], tuning[2], p),
             state,
             x,
-            roots,
         ),
         8 => poles::pole_zero_step(blended, series, state, x),
         9 => combs::comb_step(combs::comb_with(tuning[0], tuning[1], p), delay, at, x),
-        10 => expanders::multimode_step(
-            expander_of(tuning, p),
-            weights_of(tuning),
-            state,
-            x,
-            roots,
-        ),
-        11 => expanders::band_step(expander_of(tuning, p), state, x, roots),
+        10 => expanders::multimode_step(expander_of(tuning, p), weights_of(tuning), state, x),
+        11 => expanders::band_step(expander_of(tuning, p), state, x),
         12 => expanders::k35_step(
             expanders::k35_with(tuning[0], tuning[1], tuning[2], p),
             state,
             x,
-            roots,
         ),
         _ => x,
     }

@@ -1,5 +1,5 @@
 // The transistor and diode ladders. Each has what follows from the pitch and the settings alone, in a struct of its name, and the
-// step over the input and the states. `t` is the root's table.
+// step over the input and the states.
 ghost use mathlib.Core.Path.{_≡_};
 ghost use mathlib.Core.List.{List};
 ghost use lib.Ieee.{Float};
@@ -44,22 +44,22 @@ pub fn transistor_with(g: f32, p: Settings) -> TransistorLadder
     }
 }
 
-fn stage_gain(g: f32, s: f32, t: &[u8; 1024]) -> f32
+fn stage_gain(g: f32, s: f32) -> f32
     ensures { λ r. ⌜ r ≡ stageGain g s ⌝ }
 {
-    let gi = g * lane::saturation_gain(s, 1.0 / TRANSISTOR_KNEE, t);
+    let gi = g * lane::saturation_gain(s, 1.0 / TRANSISTOR_KNEE);
     gi / (1.0 + gi)
 }
 
 // The states are read once, before the roots, and handed on as s.
-fn stage_gains(g: f32, s: Four, t: &[u8; 1024]) -> Four
+fn stage_gains(g: f32, s: Four) -> Four
     ensures { λ r. ⌜ ((state : List Float) → s ≡ stagesOf state → r ≡ stageGains g state) ⌝ }
 {
     Four(
-        stage_gain(g, s.0, t),
-        stage_gain(g, s.1, t),
-        stage_gain(g, s.2, t),
-        stage_gain(g, s.3, t),
+        stage_gain(g, s.0),
+        stage_gain(g, s.1),
+        stage_gain(g, s.2),
+        stage_gain(g, s.3),
     )
 }
 
@@ -87,12 +87,12 @@ fn transistor_solve(s: Four, gg: Four, k: f32, x: f32) -> Stages
 }
 
 // State: 0 to 3 the stages, 4 the previous fourth-stage output.
-pub fn transistor_step(c: TransistorLadder, state: &mut [f32; 20], x: f32, t: &[u8; 1024]) -> f32
+pub fn transistor_step(c: TransistorLadder, state: &mut [f32; 20], x: f32) -> f32
     ensures { λ r. ⌜ ticked r (now (state .exit)) ≡ transistorStep c (now (state .entry)) x ⌝ }
 {
     let s = stages::stages_of(state);
-    let k = c.base * lane::saturation_gain(state[4], c.inv_knee, t);
-    let y = transistor_solve(s, stage_gains(c.g, s, t), k, x);
+    let k = c.base * lane::saturation_gain(state[4], c.inv_knee);
+    let y = transistor_solve(s, stage_gains(c.g, s), k, x);
     stages::store_ladder(state, y);
     y.y4
 }
@@ -134,12 +134,12 @@ pub fn driven_coefficients(g: f32, p: Settings) -> DrivenLadder
     driven_with(g, drive, lane::soft_clip(drive), p)
 }
 
-pub fn driven_step(c: DrivenLadder, state: &mut [f32; 20], x: f32, t: &[u8; 1024]) -> f32
+pub fn driven_step(c: DrivenLadder, state: &mut [f32; 20], x: f32) -> f32
     ensures { λ r. ⌜ ticked r (now (state .exit)) ≡ drivenStep c (now (state .entry)) x ⌝ }
 {
     let ladder = c.ladder;
     let u = lane::soft_clip(x * c.drive) / c.full;
-    transistor_step(ladder, state, u, t)
+    transistor_step(ladder, state, u)
 }
 
 // What a diode ladder's elimination has of the pitch alone, row by row.
@@ -241,28 +241,28 @@ fn diode_solve(c: Rows, state: &[f32; 20], k: f32, input: f32) -> Stages
     }
 }
 
-fn diode_feedback(c: DiodeLadder, state: &[f32; 20], t: &[u8; 1024]) -> f32
+fn diode_feedback(c: DiodeLadder, state: &[f32; 20]) -> f32
     ensures { λ r. ⌜ r ≡ diodeFeedback c (now (state .entry)) ⌝ }
 {
-    c.base * lane::saturation_gain(state[4], c.inv_knee, t)
+    c.base * lane::saturation_gain(state[4], c.inv_knee)
 }
 
 // State: 0 to 3 the stages, 4 the previous fourth-stage output.
-pub fn acid_step(c: DiodeLadder, state: &mut [f32; 20], x: f32, t: &[u8; 1024]) -> f32
+pub fn acid_step(c: DiodeLadder, state: &mut [f32; 20], x: f32) -> f32
     ensures { λ r. ⌜ ticked r (now (state .exit)) ≡ acidStep c (now (state .entry)) x ⌝ }
 {
     let rows = c.rows;
-    let k = diode_feedback(c, state, t);
+    let k = diode_feedback(c, state);
     let y = diode_solve(rows, state, k, extended::asym(x));
     stages::store_ladder(state, y);
     y.y4
 }
 
-pub fn clean_ladder_step(c: DiodeLadder, state: &mut [f32; 20], x: f32, t: &[u8; 1024]) -> f32
+pub fn clean_ladder_step(c: DiodeLadder, state: &mut [f32; 20], x: f32) -> f32
     ensures { λ r. ⌜ ticked r (now (state .exit)) ≡ cleanLadderStep c (now (state .entry)) x ⌝ }
 {
     let rows = c.rows;
-    let k = diode_feedback(c, state, t);
+    let k = diode_feedback(c, state);
     let y = diode_solve(rows, state, k, x * (1.0 + k));
     stages::store_ladder(state, y);
     y.y4

@@ -118,10 +118,10 @@ pub fn soft_clip(x: f32) -> f32
     x * (x2 + 27.0) / (x2 * 9.0 + 27.0)
 }
 
-// The gain that the resonance path's saturator has at `x`; `t` is the root's table.
-pub fn saturation_gain(x: f32, inv_a: f32, t: &[u8; 1024]) -> f32
+// The gain that the resonance path's saturator has at `x`.
+pub fn saturation_gain(x: f32, inv_a: f32) -> f32
     ensures { λ r. ⌜ r ≡ saturationGain x «inv_a» ⌝ }
 {
     let r = x * inv_a;
-    1.0 / sqrt::root_in(r * r + 1.0, t)
+    1.0 / sqrt::root(r * r + 1.0)
 }

@@ -173,7 +173,7 @@ fn nine(s: &[u8], at: usize) -> [f32; 9] {
 }
 
 // The functions with one number as their answer.
-fn value_of(name: usize, x: [f32; 9], t: &[u8; 1024]) -> f32 {
+fn value_of(name: usize, x: [f32; 9]) -> f32 {
     let a = x[0];
     let b = x[1];
     match name {
@@ -182,10 +182,10 @@ fn value_of(name: usize, x: [f32; 9], t: &[u8; 1024]) -> f32 {
         2 => lane::exp2(a),
         3 => lane::tan(a),
         4 => lane::soft_clip(a),
-        5 => sqrt::root_in(a, t),
+        5 => sqrt::root(a),
         6 => log2::log2(a),
         7 => extended::asym(a),
-        8 => lane::saturation_gain(a, b, t),
+        8 => lane::saturation_gain(a, b),
         9 => lines::hermite(a, b, x[2], x[3], x[4]),
         10 => filter::ratio_of(Pitch(a), Ratio(b)).0,
         _ => filter::gain(Pitch(a), Ratio(b)),
@@ -227,13 +227,13 @@ fn over_of(x: [f32; 9]) -> u64 {
 }
 
 // The rows of names 0 to 15.
-fn float_row(out: &mut [u8], at: usize, name: usize, x: [f32; 9], t: &[u8; 1024]) -> usize {
+fn float_row(out: &mut [u8], at: usize, name: usize, x: [f32; 9]) -> usize {
     match name {
         12 => put_svf(out, at, x),
         13 => put_targets(out, at, x),
         14 => text::put_decimal(out, at, lines::ring_len(x[0]) as u64),
         15 => text::put_decimal(out, at, over_of(x)),
-        _ => words::put_value(out, at, value_of(name, x, t)),
+        _ => words::put_value(out, at, value_of(name, x)),
     }
 }
 
@@ -310,34 +310,19 @@ fn read_row(s: &[u8], end: usize, cells: &[f32], out: &mut [u8], at: usize) -> u
 }
 
 // A name and the f32 that it takes.
-fn floats_row(
-    s: &[u8],
-    end: usize,
-    name: usize,
-    t: &[u8; 1024],
-    out: &mut [u8],
-    at: usize,
-) -> usize {
+fn floats_row(s: &[u8], end: usize, name: usize, out: &mut [u8], at: usize) -> usize {
     let first = words::start(s, 0, 1);
     let n = inputs(name);
     if (words::start(s, first, n) == end) & words::are_floats(s, first, 0, n) {
-        return float_row(out, at, name, nine(s, first), t);
+        return float_row(out, at, name, nine(s, first));
     }
     0
 }
 
 // Writes the answer of the row whose `=` is at `end`, and answers the position after it; 0 where the row cannot be read.
-fn answer(
-    s: &[u8],
-    end: usize,
-    name: usize,
-    cells: &[f32],
-    t: &[u8; 1024],
-    out: &mut [u8],
-    at: usize,
-) -> usize {
+fn answer(s: &[u8], end: usize, name: usize, cells: &[f32], out: &mut [u8], at: usize) -> usize {
     match name {
-        0..=15 => floats_row(s, end, name, t, out, at),
+        0..=15 => floats_row(s, end, name, out, at),
         16 => point_row(s, end, out, at),
         17 => table_row(s, end, out, at),
         18 => section_row(s, end, out, at),
@@ -357,7 +342,7 @@ fn name_of(s: &[u8]) -> usize {
 }
 
 // The row again: up to `= ` as it stands, then the answer.
-fn row(s: &[u8], cells: &[f32], t: &[u8; 1024], out: &mut [u8]) -> usize {
+fn row(s: &[u8], cells: &[f32], out: &mut [u8]) -> usize {
     let eq = equals(s);
     if s.len() < 2 {
         return 0;
@@ -366,7 +351,7 @@ fn row(s: &[u8], cells: &[f32], t: &[u8; 1024], out: &mut [u8]) -> usize {
         return 0;
     }
     let at = text::put_bytes(out, 0, &s[0..eq + 2]);
-    answer(s, eq, name_of(s), cells, t, out, at)
+    answer(s, eq, name_of(s), cells, out, at)
 }
 
 // Whether the line is neither empty nor to be copied.
@@ -386,9 +371,9 @@ fn put_end(out: &mut [u8], p: usize) -> usize {
 }
 
 // A line without its newline; answers how many bytes of `out` to write.
-fn line(s: &[u8], cells: &[f32], t: &[u8; 1024], out: &mut [u8]) -> usize {
+fn line(s: &[u8], cells: &[f32], out: &mut [u8]) -> usize {
     if is_row(s) {
-        let p = row(s, cells, t, out);
+        let p = row(s, cells, out);
         return put_end(out, p);
     }
     let p = text::put_bytes(out, 0, s);
@@ -402,7 +387,7 @@ fn write(out: &[u8], n: usize) {
 }
 
 // Every line of the input.
-fn replay(s: &[u8], cells: &[f32], t: &[u8; 1024], out: &mut [u8]) {
+fn replay(s: &[u8], cells: &[f32], out: &mut [u8]) {
     let mut at = 0;
     while at < s.len() {
         let end = text::line_end(s, at);
@@ -412,7 +397,7 @@ fn replay(s: &[u8], cells: &[f32], t: &[u8; 1024], out: &mut [u8]) {
         if end > s.len() {
             return;
         }
-        let n = line(&s[at..end], cells, t, out);
+        let n = line(&s[at..end], cells, out);
         write(out, n);
         if end == s.len() {
             return;
@@ -435,10 +420,9 @@ fn fill(cells: &mut [f32]) {
 // Reads the input and replays it.
 fn read_and_replay(input: &mut [u8], cells: &mut [f32], out: &mut [u8]) {
     fill(cells);
-    let t = sqrt::openings();
     let n = io::read_full(0, input);
     if n <= input.len() {
-        replay(&input[0..n], cells, &t, out);
+        replay(&input[0..n], cells, out);
     }
 }
 

@@ -239,7 +239,6 @@ pub struct Sample {
 fn kernel_tick(
     m: Structure,
     sections: &[f32; 160],
-    roots: &[u8; 1024],
     tuning: &mut [f32; 10],
     blended: &mut [f32; 43],
     over: &mut u32,
@@ -273,7 +272,6 @@ fn kernel_tick(
         m.code,
         sections,
         series,
-        roots,
         tuning,
         blended,
         state,
@@ -289,11 +287,10 @@ fn kernel_tick(
     }
 }
 
-// One frame of one slot. `roots` is the root's table; `tuning`, `blended` and `over` hold the numbers kept from frame to frame.
+// One frame of one slot. `tuning`, `blended` and `over` hold the numbers kept from frame to frame.
 pub fn tick(
     m: Structure,
     sections: &[f32; 160],
-    roots: &[u8; 1024],
     tuning: &mut [f32; 10],
     blended: &mut [f32; 43],
     over: &mut u32,
@@ -322,7 +319,6 @@ pub fn tick(
     let wet = kernel_tick(
         m,
         sections,
-        roots,
         tuning,
         blended,
         over,

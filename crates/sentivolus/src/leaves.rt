@@ -3,7 +3,6 @@ ghost use mathlib.Core.Path.{_≡_};
 ghost use mathlib.Core.List.{List};
 ghost use Rattle.lane.specs.Lane.{maxOf, minOf, exp2Of, tanOf, softClip, saturationGain};
 ghost use Rattle.sqrt.specs.Root.{rootOf};
-ghost use Rattle.sqrt.specs.Openings.{openings};
 ghost use Rattle.log2.specs.Log2.{logOf};
 ghost use Rattle.lines.specs.Lines.{hermiteOf, ringLen, readOf};
 ghost use Rattle.filter.specs.Filter.{ratioOf, overOf, gainOf, svfOf};
@@ -50,20 +49,11 @@ pub extern "C" fn sentivolus_soft_clip(x: f32) -> f32
     lane::soft_clip(x)
 }
 
-// The root's table of openings, to be lent to the functions that take it.
 #[no_mangle]
-pub extern "C" fn sentivolus_openings(t: &mut [u8; 1024])
-    ensures { λ _. ⌜ now (t .exit) ≡ openings ⌝ }
-{
-    let made = sqrt::openings();
-    *t = made;
-}
-
-#[no_mangle]
-pub extern "C" fn sentivolus_root(x: f32, t: &[u8; 1024]) -> f32
+pub extern "C" fn sentivolus_root(x: f32) -> f32
     ensures { λ r. ⌜ r ≡ rootOf x ⌝ }
 {
-    sqrt::root_in(x, t)
+    sqrt::root(x)
 }
 
 #[no_mangle]
@@ -74,10 +64,10 @@ pub extern "C" fn sentivolus_log2(q: f32) -> f32
 }
 
 #[no_mangle]
-pub extern "C" fn sentivolus_saturation_gain(x: f32, inv_a: f32, t: &[u8; 1024]) -> f32
+pub extern "C" fn sentivolus_saturation_gain(x: f32, inv_a: f32) -> f32
     ensures { λ r. ⌜ r ≡ saturationGain x «inv_a» ⌝ }
 {
-    lane::saturation_gain(x, inv_a, t)
+    lane::saturation_gain(x, inv_a)
 }
 
 #[no_mangle]

@@ -169,7 +169,6 @@ fn steering_at(steered: bool, list: &[f32], i: usize) -> f32
 fn frame(
     e: Prepared,
     sections: &[f32; 160],
-    roots: &[u8; 1024],
     tuning: &mut [f32; 10],
     blended: &mut [f32; 43],
     over: &mut u32,
@@ -214,7 +213,6 @@ fn frame(
     let s = run::tick(
         m,
         sections,
-        roots,
         tuning,
         blended,
         over,
@@ -233,7 +231,6 @@ fn frame(
 fn run_frames(
     e: Prepared,
     sections: &[f32; 160],
-    roots: &[u8; 1024],
     tuning: &mut [f32; 10],
     blended: &mut [f32; 43],
     over: &mut u32,
@@ -260,7 +257,6 @@ fn run_frames(
         let met = frame(
             e,
             sections,
-            roots,
             tuning,
             blended,
             over,
@@ -285,7 +281,6 @@ fn run_frames(
 fn run_slot(
     e: Prepared,
     sections: &[f32; 160],
-    roots: &[u8; 1024],
     targets: &[f32],
     records: &mut [f32],
     delay: &mut [f32],
@@ -313,7 +308,6 @@ fn run_slot(
     let count = run_frames(
         e,
         sections,
-        roots,
         &mut tuning,
         &mut blended,
         &mut over,
@@ -336,7 +330,6 @@ fn run_slot(
 fn run_channel(
     e: Prepared,
     sections: &[f32; 160],
-    roots: &[u8; 1024],
     targets: &[f32],
     records: &mut [f32],
     delay: &mut [f32],
@@ -360,7 +353,6 @@ fn run_channel(
         run_slot(
             e,
             sections,
-            roots,
             targets,
             records,
             delay,
@@ -379,7 +371,6 @@ fn run_channel(
 pub fn run_block(
     e: Prepared,
     sections: &[f32; 160],
-    roots: &[u8; 1024],
     targets: &[f32],
     records: &mut [f32],
     delay: &mut [f32],
@@ -401,7 +392,6 @@ pub fn run_block(
         run_channel(
             e,
             sections,
-            roots,
             targets,
             records,
             delay,

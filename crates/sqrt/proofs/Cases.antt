@@ -1,5 +1,5 @@
 -- The definition's root, by the cases that the code tests: NaN, below zero, infinity, zero, and a finite number above zero by its bit pattern. Assumes nothing.
-use mathlib.Core.Path.{_≡_, refl, sym, ap, _∙_, subst}
+use mathlib.Core.Path.{_≡_, refl, sym, ap, _∙_}
 use mathlib.Core.Bool.{Bool, true, false, not, true≢false, false≢true, _&&_}
 use Prim.Native.Nat.{ℕ, zero, suc, _+_, _-_, _*_, _/_, _%_, _^_, _≤_, _<_}
 use native.Mathlib.Nat.{add-comm, mul-div-cancel, zero-mul, mul-assoc, mul-pos, le-trans, le-of-eq, mul-le-mul-right, lt-of-lt-of-le, mul-lt-mul-of-pos-right, lt-irrefl, lt-of-not-le, not-le-of-lt, not-suc-le-zero, zero-lt-suc, le-add-right}

@@ -1,5 +1,6 @@
 pub mod Squares
 pub mod Isqrt
 pub mod Cases
-pub mod TableRule
+pub mod Scaled
+pub mod OpeningRule
 pub mod Nearest

@@ -1,5 +1,5 @@
--- To be read: Root, Openings, and the claim of Nearest.
+-- To be read: Root, Opening, and the claim of Nearest.
 pub mod Root
-pub mod Openings
+pub mod Opening
 pub mod Nearest
 pub mod Inner

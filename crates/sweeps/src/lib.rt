@@ -45,11 +45,11 @@ fn buzz_mix(c: BuzzMorph, u: f32, k: f32, s: Stage) -> f32
     c.w_low * s.low + c.w_high * high
 }
 
-// State: 0 and 1 the stage, 2 its previous band output. `t` is the root's table.
-pub fn buzz_step(c: BuzzMorph, state: &mut [f32; 20], x: f32, t: &[u8; 1024]) -> f32
+// State: 0 and 1 the stage, 2 its previous band output.
+pub fn buzz_step(c: BuzzMorph, state: &mut [f32; 20], x: f32) -> f32
     ensures { λ r. ⌜ ticked r (now (state .exit)) ≡ buzzStep c (now (state .entry)) x ⌝ }
 {
-    let k = filter::saturated_k(K_BUTTERWORTH_2, c.law, state[2], c.inv_knee, t);
+    let k = filter::saturated_k(K_BUTTERWORTH_2, c.law, state[2], c.inv_knee);
     let u = extended::asym(x);
     let s = filter::svf(state[0], state[1], u, c.g, k);
     state[0] = s.ic1;

@@ -7,10 +7,10 @@ use Rattle.leaves.proofs.replay.Statement.{statement}
 use Rattle.leaves.proofs.replay.Tie as tie
 
 abbrev Inv-loop : tie.InvT-loop
-Inv-loop s cells t out₀ at₀ out at = length out ≡ length out₀
+Inv-loop s cells out₀ at₀ out at = length out ≡ length out₀
 
 abbrev μ-loop : tie.MeasureT-loop
-μ-loop s cells t out₀ at₀ out at = length s - at
+μ-loop s cells out₀ at₀ out at = length s - at
 
 loop-holds : tie.Need-loop-holds Inv-loop μ-loop
 loop-holds c = search needs

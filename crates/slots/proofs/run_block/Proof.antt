@@ -9,11 +9,11 @@ use Rattle.slots.proofs.run_block.Statement.{statement}
 use Rattle.slots.proofs.run_block.Tie as tie
 
 abbrev Inv-loop : tie.InvT-loop
-Inv-loop e sections roots targets records₀ delay₀ pitch x y audio₀ counts₀ channels c₀ records delay audio counts c =
+Inv-loop e sections targets records₀ delay₀ pitch x y audio₀ counts₀ channels c₀ records delay audio counts c =
     Swept (channelIn e sections targets pitch x y) (e .channels) (blockRun records₀ delay₀ audio₀ counts₀) c (blockRun records delay audio counts)
 
 abbrev μ-loop : tie.MeasureT-loop
-μ-loop e sections roots targets records₀ delay₀ pitch x y audio₀ counts₀ channels c₀ records delay audio counts c = e .channels - c
+μ-loop e sections targets records₀ delay₀ pitch x y audio₀ counts₀ channels c₀ records delay audio counts c = e .channels - c
 
 run-channel-requires : tie.Need-run-channel-requires Inv-loop μ-loop
 run-channel-requires c κs =

@@ -10,11 +10,11 @@ use Rattle.slots.proofs.run_channel.Statement.{statement}
 use Rattle.slots.proofs.run_channel.Tie as tie
 
 abbrev Inv-loop : tie.InvT-loop
-Inv-loop e sections roots targets records₀ delay₀ pitch x y audio₀ counts₀ channel voices v₀ records delay audio counts v =
+Inv-loop e sections targets records₀ delay₀ pitch x y audio₀ counts₀ channel voices v₀ records delay audio counts v =
     Swept (slotIn e sections targets pitch x y channel) (e .voices) (blockRun records₀ delay₀ audio₀ counts₀) v (blockRun records delay audio counts)
 
 abbrev μ-loop : tie.MeasureT-loop
-μ-loop e sections roots targets records₀ delay₀ pitch x y audio₀ counts₀ channel voices v₀ records delay audio counts v = e .voices - v
+μ-loop e sections targets records₀ delay₀ pitch x y audio₀ counts₀ channel voices v₀ records delay audio counts v = e .voices - v
 
 run-slot-requires : tie.Need-run-slot-requires Inv-loop μ-loop
 run-slot-requires c κs =

@@ -15,7 +15,7 @@ use Rattle.slots.proofs.run_frames.Statement.{statement}
 use Rattle.slots.proofs.run_frames.Tie as tie
 
 abbrev Inv-loop : tie.InvT-loop
-Inv-loop e sections roots tuning₀ blended₀ over₀ targets params₀ state₀ delay₀ pitch x y audio₀ p frames count₀ f₀ tuning blended over params state delay audio count f =
+Inv-loop e sections tuning₀ blended₀ over₀ targets params₀ state₀ delay₀ pitch x y audio₀ p frames count₀ f₀ tuning blended over params state delay audio count f =
     (f ≤ e .frames)
     × (slotRun params state delay audio count ≡ upto (frameIn e sections targets pitch x y p) f (slotRun params₀ state₀ delay₀ audio₀ 0))
     × (count ≤ 8 * f)
@@ -25,7 +25,7 @@ Inv-loop e sections roots tuning₀ blended₀ over₀ targets params₀ state�
     × Keeps (e .m) sections tuning blended over
 
 abbrev μ-loop : tie.MeasureT-loop
-μ-loop e sections roots tuning₀ blended₀ over₀ targets params₀ state₀ delay₀ pitch x y audio₀ p frames count₀ f₀ tuning blended over params state delay audio count f = e .frames - f
+μ-loop e sections tuning₀ blended₀ over₀ targets params₀ state₀ delay₀ pitch x y audio₀ p frames count₀ f₀ tuning blended over params state delay audio count f = e .frames - f
 
 frame-requires : tie.Need-frame-requires Inv-loop μ-loop
 frame-requires c κs =

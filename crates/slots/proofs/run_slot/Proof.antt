@@ -69,11 +69,11 @@ run-slot-spec =
     (λ c κs. let s = c .before .before .before .before .before .before .before .before .before in (s .pre .3 .below, s .pre .1 .records))
     (λ c κs. c .before .start-of .ensures .1)
     (λ c κs. omega (arith, c .before .before .start-of2 .ensures .1))
-    (λ c. omega (arith, c .before .before .before .before .start-of2 .ensures .1, c .before .before .before .before .before .before .before .before .before .before .before .before .before .before .good .1 .1 .1 .1 .0))
+    (λ c. omega (arith, c .before .before .before .before .start-of2 .ensures .1, c .before .before .before .before .before .before .before .before .before .before .before .before .before .before .good .1 .1 .1 .0))
     (λ c κs. omega (arith, c .before .before .before .before .start-of2 .ensures .1))
     run-frames-requires
     (λ c κs. omega (arith, c .before .before .before .before .before .before .before .before .before .before .before .before .before .before .before .before .before .before .before .before .before .start-of2 .ensures))
-    (λ c. let s = c .before .before .before .before .before .before .before .before .before .before .before .before .before .before .before .before .before .before .before .before .before .before .before .before .before .before .before .before .before .before .before .before .before .before in omega (arith, s .pre .3 .below, s .pre .1 .counts, s .good .1 .1 .1 .1 .1 .1 .1 .1 .1 .1 .0))
+    (λ c. let s = c .before .before .before .before .before .before .before .before .before .before .before .before .before .before .before .before .before .before .before .before .before .before .before .before .before .before .before .before .before .before .before .before .before .before in omega (arith, s .pre .3 .below, s .pre .1 .counts, s .good .1 .1 .1 .1 .1 .1 .1 .1 .1 .0))
     (λ c. let s = c .before .before .before .before .before .before .before .before .before .before .before .before .before .before .before .before .before .before .before .before .before .before .before .before .before .before .before .before .before .before .before .before .before .before in omega (arith, s .pre .3 .below, s .pre .1 .counts))
     (λ c. omega arith)
     (λ c. omega arith)

@@ -1,26 +1,34 @@
 -- `guess` stays in its range: the last step takes a remainder by 2 ^ 23. The pattern of g, at most 1,031 * 2 ^ 52, is no NaN's. Assumes nothing.
-use Prim.Native.Nat.{_+_, _*_}
+use mathlib.Core.Path.{sym, subst}
+use Prim.Native.Nat.{ℕ, _+_, _*_, _<_}
 use native.Mathlib.Omega.{arith}
 use lib.Ieee.{binary64}
 use Rattle.bits.specs.Patterns.{not-nan, plain-in}
+use Rattle.sqrt.proofs.OpeningRule.{opening-small}
 use borrow.Author.Needs.{needs}
 use Rattle.sqrt.proofs.guess.Statement.{statement}
 use Rattle.sqrt.proofs.guess.Tie as tie
 
-element-copy-out-wide : tie.Need-element-copy-out-wide
-element-copy-out-wide c = search needs
+cast-opening : tie.Need-cast-opening
+cast-opening c = search needs
 
-wide-requires : tie.Need-wide-requires
-wide-requires c κs = search needs
+opening-requires : tie.Need-opening-requires
+opening-requires c κs = search needs
+
+cast-n : tie.Need-cast-n
+cast-n c = search needs
+
+small : (c : tie.After-opening) → c .opening .result < 256
+small c = subst (λ (n : ℕ). n < 256) (sym (c .opening .ensures)) (opening-small _)
 
 mul-g : tie.Need-mul-g
-mul-g c = search needs
+mul-g c = record { fits = let h = small c in omega arith }
 
 add-g : tie.Need-add-g
-add-g c = search needs
+add-g c = record { fits = let h = small c in omega arith }
 
 float-from-bits-g : tie.Need-float-from-bits-g
-float-from-bits-g c = plain-in binary64 (c .wide .result * 35184372088832 + 4634226006796795904) (omega (arith, c .wide .ensures))
+float-from-bits-g c = plain-in binary64 (c .opening .result * 35184372088832 + 4634226006796795904) (let h = small c in omega arith)
 
 cast-third : tie.Need-cast-third
 cast-third c = search needs
@@ -44,8 +52,9 @@ pub guess-spec : {M : Type 1} → statement M
 guess-spec =
     tie.close
     (tie.spec
-    element-copy-out-wide
-    wide-requires
+    cast-opening
+    opening-requires
+    cast-n
     mul-g
     add-g
     float-from-bits-g

@@ -7,16 +7,16 @@ use Rattle.sqrt.proofs.near_root.Statement.{statement}
 use Rattle.sqrt.proofs.near_root.Tie as tie
 
 abbrev Inv-loop : tie.InvT-loop
-Inv-loop t m n₀ n = (8388608 ≤ n) × (n < 16777216)
+Inv-loop m n₀ n = (8388608 ≤ n) × (n < 16777216)
 
 abbrev μ-loop : tie.MeasureT-loop
-μ-loop t m n₀ n = n
+μ-loop m n₀ n = n
 
 abbrev Inv-loop2 : tie.InvT-loop2
-Inv-loop2 t m n₀ n = (8388608 ≤ n) × (n < 16777216) × (n * (n - 1) < m)
+Inv-loop2 m n₀ n = (8388608 ≤ n) × (n < 16777216) × (n * (n - 1) < m)
 
 abbrev μ-loop2 : tie.MeasureT-loop2
-μ-loop2 t m n₀ n = 16777216 - n
+μ-loop2 m n₀ n = 16777216 - n
 
 guess-requires : tie.Need-guess-requires Inv-loop μ-loop Inv-loop2 μ-loop2
 guess-requires c κs = search needs

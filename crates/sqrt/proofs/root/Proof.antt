@@ -1,0 +1,18 @@
+-- `root` meets its contract: what it calls is whole by itself. Assumes nothing.
+use mathlib.Core.Path.{refl}
+use Rattle.bits.specs.Patterns.{not-nan}
+use Rattle.sqrt.proofs.Cases.{nan-stays}
+use borrow.Author.Needs.{needs}
+use Rattle.sqrt.proofs.root.Statement.{statement}
+use Rattle.sqrt.proofs.root.Tie as tie
+
+pub root-spec : {M : Type 1} → statement M
+root-spec =
+    tie.close
+    (tie.spec
+    (λ c. nan-stays (c .before .args .x) (c .if1 .taken))
+    (λ c. not-nan (c .before .args .x) (c .if1 .left))
+    (λ c κs. (not-nan _ (c .before .before .if1 .left), refl, search needs, search needs))
+    (λ c. c .guessed-root .ensures)
+    (λ c κs. (not-nan _ (c .before .if1 .left), refl))
+    (λ c. c .any-root .ensures))
