@@ -9,11 +9,10 @@ use lib.Dec.{leb}
 use lib.Pow.{pow-add, pow-mono}
 use borrow.Author.Tests.{le-leb}
 use Rattle.sqrt.specs.Root.{digit, isqrt}
-use Rattle.sqrt.specs.Opening.{Opens, openingOf}
+use Rattle.sqrt.specs.Opening.{openingOf, MeetsRule, Beyond}
 use Rattle.sqrt.proofs.Isqrt.{isqrt-floor}
 
--- for each j from 0 to 1,023 it is the largest whole n with n * n ≤ 64 * j
-pub opening-rule : (j : ℕ) → j < 1024 → Opens j (openingOf j)
+pub opening-rule : MeetsRule
 unfolding openingOf
 opening-rule j h = let f = isqrt-floor 8 (64 * j) (omega arith) in record { square = f .0; next = f .1 }
 
@@ -30,12 +29,12 @@ small (suc d) n = subst (λ (z : ℕ). digit n (isqrt d (n / 4)) + 1 ≤ z) (sym
         by true = omega arith
         by false = omega arith
 
-pub opening-small : (j : ℕ) → openingOf j < 256
-unfolding openingOf
-opening-small j = let h = small 8 (64 * j) in omega arith
-
 pub digits-small : (d n : ℕ) → d ≤ 8 → isqrt d n < 256
 digits-small d n h = let s = small d n in let p = pow-mono {j = 8} h in omega arith
+
+pub opening-small : (j : ℕ) → openingOf j < 256
+unfolding openingOf
+opening-small j = digits-small 8 (64 * j) (omega arith)
 
 -- all of them 1, where n has more
 full : (d n : ℕ) → 4 ^ d ≤ n → isqrt d n + 1 ≡ 2 ^ d
@@ -67,7 +66,7 @@ full (suc d) n h =
     twice : (r p : ℕ) → r + 1 ≡ p → 2 * r + 1 + 1 ≡ p * 2
     twice r p i = omega arith
 
-pub opening-beyond : (j : ℕ) → 1024 ≤ j → openingOf j ≡ 255
+pub opening-beyond : Beyond
 unfolding openingOf
 opening-beyond j h = let e = full 8 (64 * j) (omega arith) in omega arith
 

@@ -1,9 +1,9 @@
 // The square root of an f32 (document 01, Floats): NaN, infinity and both zeros as themselves, a negative number NaN,
 // else the f32 nearest the true root. Whole numbers decide: a first guess opens, and comparisons of squares judge or correct it.
 ghost use mathlib.Core.Path.{_≡_};
-ghost use mathlib.Core.Bool.{true, not};
+ghost use mathlib.Core.Bool.{true};
 ghost use lib.Dec.{T};
-ghost use lib.Ieee.{binary32, fits, toBits, isNan};
+ghost use lib.Ieee.{binary32, fits, toBits};
 ghost use Prim.Native.Nat.{_+_, _*_, _^_, _<_, _≤_};
 ghost use Rattle.sqrt.specs.Root.{rootOf, rootUnits};
 ghost use Rattle.sqrt.specs.Opening.{openingOf};
@@ -83,7 +83,8 @@ fn is_nearest(m: u64, n: u64) -> bool
     std::num::wrapping_sub_u64(m + n - 1, n * n) < n + n
 }
 
-// Whether r, from 1 up and below 2, has for its digits the whole number nearest to √m.
+// Whether r, from 1 up and below 2, has for its digits the whole number nearest to √m. Its pattern is its digits and 1056964608, the
+// pattern of 1/2.
 fn is_root(m: u64, r: f32) -> bool
     requires { ⌜ (70368744177664 ≤ m) × (m ≤ 281474959933440) ⌝ }
     ensures { λ b. ⌜ (b ≡ true → HasRoot m r) ⌝ }
@@ -143,9 +144,9 @@ fn finite_root(m: u64, e: u32) -> f32
     f32::from_bits((e / 2 - 1) * 8388608 + (near_root(square) as u32))
 }
 
-// The root of any number but a NaN, with its pattern. What is not above zero and finite has a pattern of 0 or from the infinity's up.
+// The root of any number, with its pattern. What is not above zero and finite has a pattern of 0 or from the infinity's up.
 fn any_root(x: f32, b: u32) -> f32
-    requires { ⌜ (T (not (isNan x))) × (b ≡ toBits binary32 x) ⌝ }
+    requires { ⌜ b ≡ toBits binary32 x ⌝ }
     ensures { λ r. ⌜ r ≡ rootOf x ⌝ }
 {
     if b == 0 {
@@ -163,7 +164,7 @@ fn any_root(x: f32, b: u32) -> f32
 
 // The root of a number from 1 up, below 4, with its pattern: the quick guess, where that is the root.
 fn guessed_root(x: f32, b: u32) -> f32
-    requires { ⌜ (T (not (isNan x))) × (b ≡ toBits binary32 x) × (1065353216 ≤ b) × (b < 1082130432) ⌝ }
+    requires { ⌜ (b ≡ toBits binary32 x) × (1065353216 ≤ b) × (b < 1082130432) ⌝ }
     ensures { λ r. ⌜ r ≡ rootOf x ⌝ }
 {
     let r = quick_guess(x);

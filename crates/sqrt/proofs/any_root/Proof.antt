@@ -23,7 +23,7 @@ zero-stays x f h = let e : x ≡ ofBits binary32 0 = sym (ofBits-toBits binary32
 returns : tie.Need-returns
 returns c =
     let s = c .before in
-    zero-stays (s .args .x) (held s) (sym (s .pre .1) ∙ search needs)
+    zero-stays (s .args .x) (held s) (sym (s .pre) ∙ search needs)
 
 returns-2 : tie.Need-returns-2
 returns-2 c = negative (c .before .before .before .args .x) (c .if3 .taken)
@@ -32,7 +32,7 @@ returns-3 : tie.Need-returns-3
 returns-3 c =
     let s = c .before .before .before in
     let x = s .args .x in
-    stays x (c .if3 .left) (ap positive (sym (ofBits-toBits binary32 x (held s))) ∙ none-above (toBits binary32 x) (subst (λ (b : ℕ). 2139095040 ≤ b) (s .pre .1) (c .before .if2 .taken)))
+    stays x (c .if3 .left) (ap positive (sym (ofBits-toBits binary32 x (held s))) ∙ none-above (toBits binary32 x) (subst (λ (b : ℕ). 2139095040 ≤ b) (s .pre) (c .before .if2 .taken)))
 
 finite-root-requires : tie.Need-finite-root-requires
 finite-root-requires c κs = let d = c .digits-of .ensures in (d .least, d .most, d .low, d .high)
@@ -42,7 +42,7 @@ returns-4 c =
     let s = c .before .before .before .before in
     c .finite-root .ensures
     ∙ sym (c .before .digits-of .ensures .is)
-    ∙ ap rootOf (ap (ofBits binary32) (s .pre .1) ∙ ofBits-toBits binary32 (s .args .x) (held s))
+    ∙ ap rootOf (ap (ofBits binary32) (s .pre) ∙ ofBits-toBits binary32 (s .args .x) (held s))
 
 pub any-root-spec : {M : Type 1} → statement M
 any-root-spec = tie.close (tie.spec returns returns-2 returns-3 (λ c κs. search needs) finite-root-requires returns-4)

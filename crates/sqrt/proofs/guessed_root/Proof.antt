@@ -38,9 +38,9 @@ returns : tie.Need-returns
 returns c =
     let s = c .before .before .before .before in
     let r = c .before .before .before .quick-guess .result in
-    let e = s .pre .1 in
+    let e = s .pre .0 in
     let v = subst (λ (m : ℕ). HasRoot m r) (c .before .before .scaled-of .ensures ∙ ap scaled e) (c .before .is-root .ensures (c .if1 .taken)) in
-    found (s .args .x) r (held s) (c .before .before .before .quick-guess .ensures) (subst (λ (b : ℕ). 1065353216 ≤ b) e (s .pre .2)) (subst (λ (b : ℕ). b < 1082130432) e (s .pre .3)) v
+    found (s .args .x) r (held s) (c .before .before .before .quick-guess .ensures) (subst (λ (b : ℕ). 1065353216 ≤ b) e (s .pre .1)) (subst (λ (b : ℕ). b < 1082130432) e (s .pre .2)) v
 
 pub guessed-root-spec : {M : Type 1} → statement M
 guessed-root-spec = tie.close (tie.spec (λ c κs. tt) (λ c κs. search needs) is-root-requires returns (λ c κs. search needs) (λ c. c .any-root .ensures))

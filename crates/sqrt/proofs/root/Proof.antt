@@ -12,7 +12,7 @@ root-spec =
     (tie.spec
     (λ c. nan-stays (c .before .args .x) (c .if1 .taken))
     (λ c. not-nan (c .before .args .x) (c .if1 .left))
-    (λ c κs. (not-nan _ (c .before .before .if1 .left), refl, search needs, search needs))
+    (λ c κs. (refl, search needs, search needs))
     (λ c. c .guessed-root .ensures)
-    (λ c κs. (not-nan _ (c .before .if1 .left), refl))
+    (λ c κs. refl)
     (λ c. c .any-root .ensures))
