@@ -59,7 +59,7 @@ extern "C" {
 
 /* 10,000 x major + 100 x minor + patch. It grows with every change of a call, a struct or a layout; sentivolus_version() gives that of the
  * archive. */
-#define SENTIVOLUS_VERSION 500
+#define SENTIVOLUS_VERSION 600
 
 enum {
     SENTIVOLUS_MOST_VOICES = 16,
@@ -290,7 +290,7 @@ float sentivolus_read(const float *buf, size_t buf_len, size_t len, size_t curso
 void sentivolus_svf(float ic1, float ic2, float x, float g, float k, float out[4]);
 
 /* The float functions that the filters are made of, for comparison by running. */
-float sentivolus_max(float a, float b);  /* of a NaN and a number the number, of two zeros the first; so min */
+float sentivolus_max(float a, float b);  /* of a NaN and a number the number; -0 is below +0; so min */
 float sentivolus_min(float a, float b);
 float sentivolus_exp2(float v);          /* v held to -12 .. 12, NaN as -12 */
 float sentivolus_tan(float w);           /* near tan(w) for 0 .. 0.49 pi */

@@ -309,14 +309,30 @@ static void meter(void)
     check(!sentivolus_over(69, NAN) && sentivolus_over(69, INFINITY), "nor is a NaN", 0);
 }
 
-/* ---- parking */
-
 static uint32_t word_of(float x)
 {
     uint32_t word;
     memcpy(&word, &x, sizeof word);
     return isnan(x) ? 0x7FC00000u : word;
 }
+
+/* The zeros in order (C-14): of two the greater is +0 unless both are -0, the lesser -0 unless both are +0; a NaN gives way. */
+static void zeros(void)
+{
+    const float zero[] = {0.0f, -0.0f};
+    for (int a = 0; a < 2; a++)
+        for (int b = 0; b < 2; b++) {
+            check(word_of(sentivolus_max(zero[a], zero[b])) == word_of(zero[a & b]), "the greater of two zeros", 2 * a + b);
+            check(word_of(sentivolus_min(zero[a], zero[b])) == word_of(zero[a | b]), "the lesser of two zeros", 2 * a + b);
+        }
+    check(word_of(sentivolus_max(NAN, -0.0f)) == word_of(-0.0f) && word_of(sentivolus_max(-0.0f, NAN)) == word_of(-0.0f), "a NaN beside -0", 0);
+    check(word_of(sentivolus_min(NAN, 0.0f)) == 0 && word_of(sentivolus_min(0.0f, NAN)) == 0, "a NaN beside +0", 0);
+    float ten[SENTIVOLUS_TARGETS];
+    sentivolus_targets_of(-0.0f, 0, 0, 0, 0, 1, -0.0f, 0, 0, ten);
+    check(word_of(ten[0]) == word_of(-0.0f) && word_of(ten[6]) == 0, "a resonance of -0 stays, a level of -0 becomes +0", 0);
+}
+
+/* ---- parking */
 
 static uint32_t get_word(const uint8_t *at)
 {
@@ -599,6 +615,7 @@ int main(void)
     refusals();
     arguments();
     meter();
+    zeros();
     parking();
     one_voice();
     parked_nans();

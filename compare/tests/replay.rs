@@ -103,7 +103,7 @@ const LISTS: &str = "n 00000000*160\nc 00000000*8\nt 3f000000*10\nr 00000000*30\
 /// Lines of a case on parked files, after its first line.
 const CASES: [(&str, &str); 19] = [
     ("nonsense", "line 2: expected a line of a case, an answer or a comment, found \"nonsense\""),
-    ("stage 13", "line 2: expected stage 12, found \"13\""),
+    ("stage 15", "line 2: expected stage 12, 13 or 14, found \"15\""),
     ("image 4294967296", "line 2: expected a whole number that fits 32 bits, found \"4294967296\""),
     ("image 9 45fa0000 43dc0000 1 1 0 0 0 3f800000", "line 2: expected two axes, found the line's end"),
     ("image 9 45fa0000 43dc0000 1 1 0 0 0 3f800000 3 0", "line 2: expected two axes, found \"3\""),

@@ -19,7 +19,7 @@ fn cases() -> usize { parked().lines().filter(|l| l.starts_with("case ")).count(
 fn script_of(test: &str, [scenarios, leaves, parked]: [&str; 3], ending: &str, run: &str) -> String {
     let answers: String = [("gen", scenarios), ("leafgen", leaves), ("filesgen", parked)].iter()
         .map(|(name, text)| format!("{name}) cat '{}'; {ending} ;;\n", written(test, name, text).display())).collect();
-    let path = written(test, "oracle", &format!("#!/bin/sh\n[ \"$STAGE\" = 12 ] || exit 3\ncase $1 in\n{answers}run) {run} ;;\nesac\n"));
+    let path = written(test, "oracle", &format!("#!/bin/sh\n[ \"$STAGE\" = 14 ] || exit 3\ncase $1 in\n{answers}run) {run} ;;\nesac\n"));
     std::fs::set_permissions(&path, std::fs::Permissions::from_mode(0o755)).expect("the script is a program");
     path.display().to_string()
 }

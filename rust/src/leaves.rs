@@ -4,13 +4,13 @@ use crate::ffi;
 use crate::floats::ieee;
 use crate::VoiceParams;
 
-/// The greater: of a NaN and a number the number, of two zeros the first.
+/// The greater: of a NaN and a number the number; -0 is below +0, whichever comes first.
 pub fn max(a: f32, b: f32) -> f32 {
     // SAFETY: numbers alone.
     ieee(|| unsafe { ffi::sentivolus_max(a, b) })
 }
 
-/// The lesser: of a NaN and a number the number, of two zeros the first.
+/// The lesser: of a NaN and a number the number; -0 is below +0, whichever comes first.
 pub fn min(a: f32, b: f32) -> f32 {
     // SAFETY: numbers alone.
     ieee(|| unsafe { ffi::sentivolus_min(a, b) })

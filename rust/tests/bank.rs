@@ -120,7 +120,7 @@ fn defaults_are_the_archives() {
     assert_eq!(VoiceParams::default(), VoiceParams::from_array([0.1, 0.0, 0.0, 0.0, 0.0, 1.0, 1.0, 0.0, 0.0]));
     let bank = Bank::open(setup()).unwrap();
     assert_eq!(bank.targets(), targets_of(&VoiceParams::default()));
-    assert_eq!(version(), 500);
+    assert_eq!(version(), 600);
 }
 
 #[test]
@@ -170,6 +170,17 @@ fn over_is_above_the_cap() {
     let cap = ratio_of(1000.0, 1.0);
     assert_eq!([137.0, 138.0, f32::NAN, f32::INFINITY, f32::NEG_INFINITY].map(|p| over(p, 440.0 / 48000.0)), [false, true, false, true, false]);
     assert_eq!([cap, f32::from_bits(cap.to_bits() + 1), f32::NAN, f32::INFINITY].map(|r| over(69.0, r)), [false, true, false, true]);
+}
+
+#[test]
+fn zeros_in_order() {
+    let bits = |zeros: [f32; 4]| zeros.map(f32::to_bits);
+    let pairs = [(0.0, 0.0), (0.0, -0.0), (-0.0, 0.0), (-0.0, -0.0)];
+    assert_eq!(bits(pairs.map(|(a, b)| max(a, b))), bits([0.0, 0.0, 0.0, -0.0]));
+    assert_eq!(bits(pairs.map(|(a, b)| min(a, b))), bits([0.0, -0.0, -0.0, -0.0]));
+    assert_eq!(bits([max(f32::NAN, -0.0), max(-0.0, f32::NAN), min(f32::NAN, 0.0), min(0.0, f32::NAN)]), bits([-0.0, -0.0, 0.0, 0.0]));
+    let t = targets_of(&VoiceParams { resonance: -0.0, level: -0.0, ..VoiceParams::default() });
+    assert_eq!([t[0].to_bits(), t[6].to_bits()], [(-0.0f32).to_bits(), 0]);
 }
 
 #[test]

@@ -43,11 +43,12 @@ pub fn unit(x: f32) -> f32
     lane::min(lane::max(x, 0.0), 1.0)
 }
 
-// The magnitude.
+// The magnitude, the larger of x and -x. 0 - x is -x, and +0 of either zero, so that one comparison decides.
 pub fn abs(x: f32) -> f32
     ensures { λ r. ⌜ r ≡ absOf x ⌝ }
 {
-    lane::max(x, -x)
+    let n = 0.0 - x;
+    if n < x { x } else { n }
 }
 
 // Whether a structure's character is Smooth: it lags the cutoff (and the pole-zero X and Y).

@@ -1,5 +1,5 @@
--- The checked figures of document 01 that are proved of the definitions: each row is what a definition gives and what the document
--- says, as bits or as a whole number. `figures-hold` is the theorem over the table. Assumes nothing.
+-- The checked figures of document 01 that are proved of the definitions, and C-14's zeros: each row is what a definition gives and what the
+-- document says, as bits or as a whole number. `figures-hold` is the theorem over the table. Assumes nothing.
 use Prim.Native.Nat.{ℕ, _-_, _^_}
 use mathlib.Core.Bool.{Bool, true, cond, _&&_}
 use mathlib.Core.List.{List, [], _∷_}
@@ -7,7 +7,7 @@ use lib.Dec.{T, eqb, leb}
 use lib.ListN.{set, replicate}
 use lib.Ieee.{Float, binary32, nan, add, sub, mul, div, neg, lt, isNan, round, toBits, toUnsigned}
 use Rattle.lane.specs.Floats.{decimal, whole, zero, one, half}
-use Rattle.lane.specs.Lane.{maxOf, minOf, clampOf, softClip, exp2Of, tanOf}
+use Rattle.lane.specs.Lane.{isBelow, maxOf, minOf, clampOf, softClip, exp2Of, tanOf}
 use Rattle.sqrt.specs.Root.{rootOf}
 use Rattle.log2.specs.Log2.{logOf}
 use Rattle.lines.specs.Lines.{hermiteOf, ringLen, held, cellOf, tapsOf, ringRead}
@@ -40,8 +40,17 @@ nanBut a b = tab (λ i. cond (leb a (1024 - i) && leb (1024 - i) b) zero nan) 10
 
 unfoldable pub figures : List Row
 figures =
+    -- max and min of two zeros (document 02, C-14)
+    (maxOf zero zero gives zero)
+    ∷ (maxOf zero (neg zero) gives zero)
+    ∷ (maxOf (neg zero) zero gives zero)
+    ∷ (maxOf (neg zero) (neg zero) gives neg zero)
+    ∷ (minOf zero zero gives zero)
+    ∷ (minOf zero (neg zero) gives neg zero)
+    ∷ (minOf (neg zero) zero gives neg zero)
+    ∷ (minOf (neg zero) (neg zero) gives neg zero)
     -- soft_clip
-    (softClip (whole 3) gives one)
+    ∷ (softClip (whole 3) gives one)
     ∷ (softClip (whole 100) gives one)
     ∷ (softClip (neg (whole 3)) gives neg one)
     ∷ (softClip nan gives neg one)
@@ -82,6 +91,6 @@ figures =
     ∷ []
 
 pub figures-hold : T (agree figures)
-unfolding agree figures softClip exp2Of tanOf maxOf minOf clampOf rootOf logOf hermiteOf ringLen held cellOf tapsOf ringRead
+unfolding agree figures softClip exp2Of tanOf isBelow maxOf minOf clampOf rootOf logOf hermiteOf ringLen held cellOf tapsOf ringRead
     add sub mul div neg lt isNan round toBits toUnsigned
 figures-hold = tt

@@ -10,14 +10,15 @@ use lib.Seq.{sets}
 use lib.Ieee.{Float, fin, binary32, round, div, sub, eq, le, fits}
 use lib.Ieee.Bits.{is-true}
 use lib.Ieee.Scale.{finite}
-use Rattle.lane.specs.Floats.{_⊕_, _⊖_, _⊗_, _⊘_, fma, zero, one}
+use Rattle.lane.specs.Floats.{_⊖_, _⊗_, _⊘_, fma, zero, one}
 use Rattle.lane.specs.Lane.{maxOf, minOf}
 use Rattle.filter.specs.declared.Pitch.{Pitch}
 use Rattle.extended.specs.declared.Settings.{Settings}
 use Rattle.extended.specs.Extended.{absOf}
 use Rattle.sweeps.specs.declared.DjSweep.{DjSweep}
 use Rattle.sweeps.specs.Sweeps.{djFlat, djFade, djDistance, djDepth, djWith, djCoefficients, djStage, djFiltered, djStep}
-use Rattle.flat.specs.Zeros.{Zero, nonPositive, zero-times, zero-plus, finite-right, zero-of-eq, eq-of-zero, difference, product, max-zero, min-zero}
+use Rattle.bits.specs.Zeros.{Zero, zero-times, zero-plus, finite-right, zero-of-eq, eq-of-zero}
+use Rattle.flat.specs.Zeros.{nonPositive, difference, product, max-zero, min-zero}
 
 -- ---- the parts of the definition that the statements name
 

@@ -4,10 +4,10 @@ use mathlib.Core.Path.{_≡_, refl}
 use mathlib.Core.Bool.{true, false}
 use mathlib.Core.List.{List}
 use lib.ListN.{replicate}
-use lib.Ieee.{Float, binary32, round, sum, add, sub, mul, div, neg, lt, eq, le, fits, isNan}
+use lib.Ieee.{Float, round, sum, add, sub, mul, div, neg, lt, eq, le, fits, isNan}
 use lib.Ieee.Scale.{finite}
 use Rattle.lane.specs.Floats.{_⊖_, _⊘_, _‼_, whole, zero, one}
-use Rattle.lane.specs.Lane.{maxOf, minOf, exp2Of, tanOf}
+use Rattle.lane.specs.Lane.{isBelow, maxOf, minOf, exp2Of, tanOf}
 use Rattle.filter.specs.declared.Pitch.{Pitch}
 use Rattle.filter.specs.declared.Ratio.{Ratio}
 use Rattle.filter.specs.Filter.{svfOf, gainOf, gainAt, ratioOf, ratioAt, octavesOf}
@@ -30,11 +30,11 @@ zeroStates = replicate 20 zero
 
 unfoldable pub coefficients : DjSweep
 unfolding djCoefficients djWith djDistance djDepth djPitch djK gainOf gainAt ratioOf ratioAt octavesOf exp2Of tanOf
-    unitOr0 absOf maxOf minOf isNan neg lt mul sub add sum div round
+    unitOr0 absOf maxOf minOf isBelow isNan neg lt mul sub add sum div round
 coefficients = djCoefficients middle settings
 
 pub near : nearMiddle middle ≡ true
-unfolding nearMiddle djDistance absOf maxOf minOf isNan neg lt eq le mul sub add sum div round
+unfolding nearMiddle djDistance absOf maxOf minOf isBelow isNan neg lt eq le mul sub add sum div round
 near = refl
 
 pub difference-finite : finite (djFiltered coefficients one (djStage coefficients zeroStates one) ⊖ one) ≡ true

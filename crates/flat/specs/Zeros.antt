@@ -1,211 +1,20 @@
 -- For the proofs: nothing here must be believed.
--- Zeros in binary32's arithmetic: a zero times a finite number is a zero, and a zero plus an f32 is that f32 in value. And what is at or
--- below zero stays so: a number less one that it does not exceed, and its product with a positive number. Assumes nothing.
-use mathlib.Core.Path.{_≡_, refl, sym, ap, _∙_, subst}
-use mathlib.Core.Logic.{_⊎_, inl, inr}
-use mathlib.Core.Bool.{Bool, true, false, not, cond, _&&_, _||_, Bool·beq}
-use Prim.Native.Nat.{ℕ, zero, suc, _+_, _-_, _*_, _%_, _^_, _≤_, _<_}
-use native.Mathlib.Nat.{lt-irrefl, eq-zero-or-pos, zero-mul, mul-one, mul-comm, mul-assoc, mul-pos, mul-lt-mul-of-pos-right, lt-of-mul-lt-mul-right}
-use native.Mathlib.Nat.{lt-of-not-le, not-le-of-lt, le-of-suc-le-suc}
+-- What is at or below zero stays so: a number less one that it does not exceed, and its product with a positive number. And the larger of such a
+-- number and zero is a zero. Assumes nothing.
+use mathlib.Core.Path.{_≡_, refl, sym, subst}
+use mathlib.Core.Bool.{Bool, true, false, not, cond, _&&_, _||_}
+use Prim.Native.Nat.{ℕ, zero, suc, _+_, _-_, _*_, _^_, _≤_, _<_}
+use native.Mathlib.Nat.{mul-pos}
 use native.Mathlib.Omega.{arith}
-use lib.IntN.{ℤ, pos, negsuc}
-use lib.Dec.{T, leb, ltb, eqb, ltb→lt, nltb→le, leb→le, eqb→eq, eqb·suc-zero, lit<}
-use lib.Pow.{pow-add, pow-pos, pow-lt}
-use lib.Ieee.{Float, nan, inf, fin, binary32, up, down, unlike, odd, units, round, sum, add, sub, mul, neg, lt, eq, le, fits, isNan}
-use lib.Ieee.Bits.{is-true}
-use lib.Ieee.Fits.{up-pos, down-pos, and-i, and-l, and-r, eq→eqb, round-is}
-use lib.Ieee.Exact.{HasValue, round-exact}
+use lib.IntN.{ℤ, pos}
+use lib.Dec.{T, ltb, eqb, ltb→lt, nltb→le, eqb→eq, eqb·suc-zero}
+use lib.Ieee.{Float, nan, inf, fin, binary32, up, down, odd, units, round, sum, add, sub, mul, neg, lt, le, isNan}
+use lib.Ieee.Fits.{up-pos, down-pos, and-l, eq→eqb, round-is}
 use lib.Ieee.Order.{drop, kept}
-use lib.Ieee.Scale.{round-same, finite}
-use Rattle.lane.specs.Lane.{maxOf, minOf}
-
--- a zero of either sign
-abbrev pub Zero : Float → Type 0
-Zero nan = ⊥
-Zero (inf s) = ⊥
-Zero (fin s m e) = m ≡ 0
-
--- ---- a zero times a finite number
-zero-factor : (a b : ℕ) → 0 < b → a * b ≡ 0 → a ≡ 0
-zero-factor a b B h = elim (eq-zero-or-pos a) [ inl z ↦ z | inr p ↦ absurd (lt-irrefl 0 (subst (λ (k : ℕ). 0 < k) h (mul-pos p B))) ]
-
-zero-of-value : (x : Float) (s : Bool) (c : ℕ) → 0 < c → HasValue x s 0 c → Zero x
-zero-of-value nan s c C h = absurd h
-zero-of-value (inf t) s c C h = absurd h
-zero-of-value (fin t m e) s c C h = zero-factor m (up e) (up-pos e) (zero-factor (m * up e) c C (h .1 ∙ zero-mul (down e)))
-
-round-zero : (s : Bool) (a c : ℕ) → 0 < c → a ≡ 0 → Zero (round binary32 s a c)
-round-zero s a c C z = subst (λ (k : ℕ). Zero (round binary32 s k c)) (sym z)
-    (zero-of-value (round binary32 s 0 c) s c C (round-exact binary32 s 0 c 0 0 C (lit< tt) (lit< tt) (sym (zero-mul c))))
-
-zero-product : (a b c : ℕ) → a ≡ 0 → a * b * c ≡ 0
-zero-product a b c z = ap (λ (k : ℕ). k * b * c) z ∙ ap (λ (k : ℕ). k * c) (zero-mul b) ∙ zero-mul c
-
-pub zero-times : (x y : Float) → Zero x → T (finite y) → Zero (mul binary32 x y)
-unfolding mul
-zero-times nan y z h = absurd z
-zero-times (inf s) y z h = absurd z
-zero-times (fin s m e) nan z h = absurd h
-zero-times (fin s m e) (inf t) z h = absurd h
-zero-times (fin s m e) (fin t n d) z h =
-    round-zero (unlike s t) (m * up e * (n * up d)) (down e * down d) (mul-pos (down-pos e) (down-pos d)) (zero-product m (up e) (n * up d) z)
-
--- ---- an f32 rounds to itself
-fits-says : (s : Bool) (m : ℕ) (e : ℤ) → T (fits binary32 (fin s (suc m) e))
-    → (suc m < 2 ^ 24) × (down e ≤ 2 ^ 149) × (suc m * up e < 2 ^ 128 * down e)
-unfolding fits
-fits-says s m e t =
-    let a : Bool = eqb (suc m % 2) 1 in
-    let b : Bool = ltb (suc m) (2 ^ 24) in
-    let c : Bool = leb (down e) (2 ^ 149) in
-    let d : Bool = ltb (suc m * up e) (2 ^ 128 * down e) in (
-      ltb→lt (suc m) (2 ^ 24) (and-r a b (and-l (a && b) c (and-l (a && b && c) d t))),
-      leb→le (down e) (2 ^ 149) (and-r (a && b) c (and-l (a && b && c) d t)),
-      ltb→lt (suc m * up e) (2 ^ 128 * down e) (and-r (a && b && c) d t),
-    )
-
--- what is below 2^t is below 2^(l + t) in units of 2^-l: m 2^k here, and m 2^-k in `small-lt`
-large-lt : (m k l t : ℕ) → m * 2 ^ k < 2 ^ t → m * 2 ^ (k + l) < 2 ^ (l + t)
-large-lt m k l t h = rw (pow-add 2 k l, pow-add 2 l t, mul-comm (2 ^ l) (2 ^ t), ← mul-assoc m (2 ^ k) (2 ^ l)) (mul-lt-mul-of-pos-right h (pow-pos l))
-
-exponent-le : (k l : ℕ) → 2 ^ k ≤ 2 ^ l → k ≤ l
-exponent-le k l h = le-of-suc-le-suc (lt-of-not-le (λ (g : suc l ≤ k). not-le-of-lt (pow-lt g) h))
-
-rest : (k l : ℕ) → k ≤ l → l - k + k ≡ l
-rest k l h = omega arith
-
-small : (m k l : ℕ) → k ≤ l → m * 2 ^ (l - k) * 2 ^ k ≡ m * 2 ^ l
-small m k l h = mul-assoc m (2 ^ (l - k)) (2 ^ k) ∙ ap (λ (z : ℕ). m * z) (sym (pow-add 2 (l - k) k) ∙ ap (λ (z : ℕ). 2 ^ z) (rest k l h))
-
-small-lt : (m k l t : ℕ) → k ≤ l → m < 2 ^ t * 2 ^ k → m * 2 ^ (l - k) < 2 ^ (l + t)
-small-lt m k l t h g =
-    lt-of-mul-lt-mul-right (2 ^ k)
-    (rw (small m k l h, pow-add 2 l t, mul-assoc (2 ^ l) (2 ^ t) (2 ^ k), mul-comm (2 ^ l) (2 ^ t * 2 ^ k)) (mul-lt-mul-of-pos-right g (pow-pos l)))
-
-round-itself : (s t : Bool) (m : ℕ) (e : ℤ) → T (fits binary32 (fin s m e)) → HasValue (round binary32 t (m * up e) (down e)) t (m * up e) (down e)
-round-itself s t zero e h = round-exact binary32 t (0 * up e) (down e) 0 0 (down-pos e) (lit< tt) (lit< tt)
-    (ap (λ (z : ℕ). z * 2 ^ 149) (zero-mul (up e)) ∙ sym (zero-mul (down e)))
-round-itself s t (suc m) (pos k) h =
-    let f = fits-says s m (pos k) h in
-    let g : suc m * 2 ^ k < 2 ^ 128 = rw (mul-one) at (f .2) in
-    round-exact binary32 t (suc m * 2 ^ k) 1 (suc m) (k + 149) (lit< tt) (f .0) (large-lt (suc m) k 149 128 g)
-    (rw (pow-add 2 k 149, mul-one) (mul-assoc (suc m) (2 ^ k) (2 ^ 149)))
-round-itself s t (suc m) (negsuc k) h =
-    let f = fits-says s m (negsuc k) h in
-    let l : suc k ≤ 149 = exponent-le (suc k) 149 (f .1) in
-    let g : suc m < 2 ^ 128 * 2 ^ suc k = rw (mul-one) at (f .2) in
-    round-exact binary32 t (suc m * 1) (2 ^ suc k) (suc m) (149 - suc k) (pow-pos (suc k)) (f .0) (small-lt (suc m) (suc k) 149 128 l g)
-    (ap (λ (z : ℕ). z * 2 ^ 149) (mul-one (suc m)) ∙ sym (small (suc m) (suc k) 149 l))
-
--- ---- a zero plus an f32
-alike : (a b : Bool) → T (Bool·beq a b) → a ≡ b
-alike true true t = refl
-alike true false t = absurd t
-alike false true t = absurd t
-alike false false t = refl
-
-or-l : (a b : Bool) → T a → T (a || b)
-or-l true b t = tt
-or-l false b t = absurd t
-
-or-r : (a b : Bool) → T b → T (a || b)
-or-r true b t = tt
-or-r false b t = t
-
-beq-refl : (a : Bool) → T (Bool·beq a a)
-beq-refl true = tt
-beq-refl false = tt
-
--- of equal size, and of one sign or zero
-same-value : (x : Float) (t s : Bool) (n : ℕ) (d : ℤ) → HasValue x t (n * up d) (down d) → (t ≡ s) ⊎ (n * up d ≡ 0) → T (eq x (fin s n d))
-unfolding eq
-same-value nan t s n d h k = absurd h
-same-value (inf u) t s n d h k = absurd h
-same-value (fin u m e) t s n d h k =
-    and-i (eqb (m * up e * down d) (n * up d * down e)) (Bool·beq u s || eqb (m * up e * down d) 0) (eq→eqb (h .1))
-    (elim k [
-      | inl p ↦ or-l (Bool·beq u s) (eqb (m * up e * down d) 0) (subst (λ (b : Bool). T (Bool·beq u b)) (h .0 ∙ p) (beq-refl u))
-      | inr z ↦ or-r (Bool·beq u s) (eqb (m * up e * down d) 0) (eq→eqb (h .1 ∙ ap (λ (b : ℕ). b * down e) z ∙ zero-mul (down e)))
-    ])
-
--- A is the zero's part of the sum, B the other's
-sum-zero : (t s : Bool) (n : ℕ) (d : ℤ) (A B c : ℕ) → 0 < c → A ≡ 0 → B ≡ n * up d * c → T (fits binary32 (fin s n d))
-    → T (eq (sum binary32 t A s B (c * down d)) (fin s n d))
-unfolding sum
-sum-zero t s n d A B c C z b f = go (Bool·beq t s) (ltb A B) (alike t s) (nltb→le A B)
-  where
-    has : (u : Bool) (k : ℕ) → k ≡ B → HasValue (round binary32 u k (c * down d)) u (n * up d) (down d)
-    has u k e =
-        subst (λ (x : Float). HasValue x u (n * up d) (down d))
-        (sym (round-same binary32 u k (c * down d) (n * up d) (down d) (mul-pos C (down-pos d)) (down-pos d)
-        (ap (λ (x : ℕ). x * down d) (e ∙ b) ∙ mul-assoc (n * up d) c (down d))))
-        (round-itself s u n d f)
-
-    both : A + B ≡ B
-    both = omega arith
-
-    other : B - A ≡ B
-    other = omega arith
-
-    neither : B ≤ A → (A - B ≡ B) × (B ≡ 0)
-    neither h = (omega arith, omega arith)
-
-    go : (a l : Bool) → (T a → t ≡ s) → (T (not l) → B ≤ A)
-        → T (eq
-        (cond a (round binary32 t (A + B) (c * down d))
-        (cond l (round binary32 s (B - A) (c * down d)) (round binary32 (t && ltb B A) (A - B) (c * down d))))
-        (fin s n d))
-    go true l h g = same-value (round binary32 t (A + B) (c * down d)) t s n d (has t (A + B) both) (inl (h tt))
-    go false true h g = same-value (round binary32 s (B - A) (c * down d)) s s n d (has s (B - A) other) (inl refl)
-    go false false h g =
-        let u = t && ltb B A in
-        let e = neither (g tt) in
-        same-value (round binary32 u (A - B) (c * down d)) u s n d (has u (A - B) (e .0)) (inr (zero-factor (n * up d) c C (sym b ∙ e .1)))
-
-pub zero-plus : (z x : Float) → Zero z → T (fits binary32 x) → T (finite x) → T (eq (add binary32 z x) x)
-unfolding add
-zero-plus nan x z f h = absurd z
-zero-plus (inf s) x z f h = absurd z
-zero-plus (fin t m e) nan z f h = absurd h
-zero-plus (fin t m e) (inf s) z f h = absurd h
-zero-plus (fin t m e) (fin s n d) z f h =
-    sum-zero t s n d (m * up e * down d) (n * up d * down e) (down e) (down-pos e) (zero-product m (up e) (down d) z) refl f
-
--- a difference is finite only where what it takes away is
-pub finite-right : (x y : Float) → T (finite (sub binary32 x y)) → T (finite y)
-unfolding sub add neg
-finite-right nan y h = absurd h
-finite-right (inf s) nan h = absurd h
-finite-right (inf true) (inf true) h = absurd h
-finite-right (inf true) (inf false) h = absurd h
-finite-right (inf false) (inf true) h = absurd h
-finite-right (inf false) (inf false) h = absurd h
-finite-right (inf s) (fin t n d) h = tt
-finite-right (fin s m e) nan h = absurd h
-finite-right (fin s m e) (inf t) h = absurd h
-finite-right (fin s m e) (fin t n d) h = tt
-
--- ---- `Zero` as Rust's comparison with zero has it
-pub zero-of-eq : (x : Float) → eq x (fin false 0 (pos 0)) ≡ true → Zero x
-unfolding eq
-zero-of-eq nan h = let z : _≡_ {A = ℕ} 0 1 = cc in omega arith
-zero-of-eq (inf s) h = let z : _≡_ {A = ℕ} 0 1 = cc in omega arith
-zero-of-eq (fin s m e) h =
-    zero-factor m (up e) (up-pos e)
-    (sym (mul-one (m * up e))
-    ∙ eqb→eq (m * up e * 1) (0 * 1 * down e)
-    (and-l (eqb (m * up e * 1) (0 * 1 * down e)) (Bool·beq s false || eqb (m * up e * 1) 0) (subst T (sym h) tt))
-    ∙ zero-mul (down e))
-
-pub eq-of-zero : (x : Float) → Zero x → eq x (fin false 0 (pos 0)) ≡ true
-unfolding eq
-eq-of-zero nan z = absurd z
-eq-of-zero (inf s) z = absurd z
-eq-of-zero (fin s m e) z =
-    let a : m * up e * 1 ≡ 0 = zero-product m (up e) 1 z in
-    is-true (eqb (m * up e * 1) (0 * 1 * down e) && (Bool·beq s false || eqb (m * up e * 1) 0))
-    (and-i (eqb (m * up e * 1) (0 * 1 * down e)) (Bool·beq s false || eqb (m * up e * 1) 0) (eq→eqb (a ∙ sym (zero-mul (down e))))
-    (or-r (Bool·beq s false) (eqb (m * up e * 1) 0) (eq→eqb a)))
+use Rattle.bits.specs.Zeros.{Zero, zero-factor, round-zero, zero-product, zero-times, or-r}
+use Rattle.lane.specs.Lane.{isMinusZero, maxOf, minOf}
+use Rattle.lane.specs.Order.{maxIn01, minIn01, max-moved}
+use Rattle.lane.specs.Compared.{min-other}
 
 -- ---- at or below zero, and no NaN
 abbrev pub nonPositive : Float → Bool
@@ -265,13 +74,13 @@ product (fin true m e) n d h = round-negative (m * up e * (suc n * up d)) (down 
 product (fin false m e) n d h =
     of-zero (mul binary32 (fin false m e) (fin false (suc n) d)) (zero-times (fin false m e) (fin false (suc n) d) (eqb→eq m 0 h) tt)
 
--- the larger of such a number and zero, and the smaller of a zero and a number that is not negative
-pub max-zero : (x : Float) → T (nonPositive x) → Zero (maxOf x (fin false 0 (pos 0)))
-unfolding maxOf isNan lt
-max-zero nan h = absurd h
-max-zero (inf true) h = refl
-max-zero (inf false) h = absurd h
-max-zero (fin true m e) h = go (ltb 0 (m * up e * 1 + 0 * 1 * down e)) (nltb→le 0 (m * up e * 1 + 0 * 1 * down e))
+-- the larger of such a number and zero, and the smaller of a zero and a number that is not negative: as in document 01, or that zero
+max-01 : (x : Float) → T (nonPositive x) → Zero (maxIn01 x (fin false 0 (pos 0)))
+unfolding maxIn01 isNan lt
+max-01 nan h = absurd h
+max-01 (inf true) h = refl
+max-01 (inf false) h = absurd h
+max-01 (fin true m e) h = go (ltb 0 (m * up e * 1 + 0 * 1 * down e)) (nltb→le 0 (m * up e * 1 + 0 * 1 * down e))
   where
     none : m * up e * 1 + 0 * 1 * down e ≤ 0 → m * up e ≡ 0
     none l = omega arith
@@ -279,18 +88,25 @@ max-zero (fin true m e) h = go (ltb 0 (m * up e * 1 + 0 * 1 * down e)) (nltb→l
     go : (b : Bool) → (T (not b) → m * up e * 1 + 0 * 1 * down e ≤ 0) → Zero (cond b (fin false 0 (pos 0)) (fin true m e))
     go true g = refl
     go false g = zero-factor m (up e) (up-pos e) (none (g tt))
-max-zero (fin false m e) h = go (ltb (m * up e * 1) (0 * 1 * down e))
+max-01 (fin false m e) h = go (ltb (m * up e * 1) (0 * 1 * down e))
   where
     go : (b : Bool) → Zero (cond b (fin false 0 (pos 0)) (fin false m e))
     go true = refl
     go false = eqb→eq m 0 h
 
-pub min-zero : (x : Float) (n : ℕ) (d : ℤ) → Zero x → Zero (minOf x (fin false n d))
-unfolding minOf isNan lt
-min-zero nan n d z = absurd z
-min-zero (inf s) n d z = absurd z
-min-zero (fin true m e) n d z = z
-min-zero (fin false m e) n d z = go (ltb (n * up d * down e) (m * up e * down d)) (ltb→lt (n * up d * down e) (m * up e * down d))
+pub max-zero : (x : Float) → T (nonPositive x) → Zero (maxOf x (fin false 0 (pos 0)))
+max-zero x h = subst Zero (sym (max-moved x (fin false 0 (pos 0)))) (go (isMinusZero x && true))
+  where
+    go : (b : Bool) → Zero (cond b (fin false 0 (pos 0)) (maxIn01 x (fin false 0 (pos 0))))
+    go true = refl
+    go false = max-01 x h
+
+min-01 : (x : Float) (n : ℕ) (d : ℤ) → Zero x → Zero (minIn01 x (fin false n d))
+unfolding minIn01 isNan lt
+min-01 nan n d z = absurd z
+min-01 (inf s) n d z = absurd z
+min-01 (fin true m e) n d z = z
+min-01 (fin false m e) n d z = go (ltb (n * up d * down e) (m * up e * down d)) (ltb→lt (n * up d * down e) (m * up e * down d))
   where
     never : n * up d * down e < m * up e * down d → ⊥
     never l = omega (arith, zero-product m (up e) (down d) z)
@@ -298,3 +114,6 @@ min-zero (fin false m e) n d z = go (ltb (n * up d * down e) (m * up e * down d)
     go : (b : Bool) → (T b → n * up d * down e < m * up e * down d) → Zero (cond b (fin false n d) (fin false m e))
     go true g = absurd (never (g tt))
     go false g = z
+
+pub min-zero : (x : Float) (n : ℕ) (d : ℤ) → Zero x → Zero (minOf x (fin false n d))
+min-zero x n d z = subst Zero (sym (min-other x (fin false n d) refl)) (min-01 x n d z)

@@ -1,20 +1,36 @@
 -- The float leaves of lane.rs and document 01's stand-ins for library functions (section Floats).
 -- Definitions only. Assumes nothing.
-use mathlib.Core.Bool.{cond}
+use mathlib.Core.Bool.{Bool, false, not, cond, _&&_, _||_}
 use Prim.Native.Nat.{_^_}
-use lib.Ieee.{Float, neg, lt, isNan}
+use lib.Dec.{eqb}
+use lib.Ieee.{Float, nan, inf, fin, neg, lt, isNan}
 use Rattle.sqrt.specs.Root.{rootOf}
-use Rattle.lane.specs.Floats.{_⊕_, _⊖_, _⊗_, _⊘_, fma, decimal, whole, zero, one, half}
+use Rattle.lane.specs.Floats.{_⊕_, _⊗_, _⊘_, fma, decimal, whole, one, half}
 
 -- ---- stand-ins
 
--- max: b if a is NaN; a if b is NaN; b if a < b; else a
-unfoldable pub maxOf : Float → Float → Float
-maxOf a b = cond (isNan a) b (cond (isNan b) a (cond (lt a b) b a))
+-- +0, and -0
+abbrev pub isPlusZero : Float → Bool
+isPlusZero nan = false
+isPlusZero (inf s) = false
+isPlusZero (fin s m e) = not s && eqb m 0
 
--- min: likewise with b < a
+abbrev pub isMinusZero : Float → Bool
+isMinusZero nan = false
+isMinusZero (inf s) = false
+isMinusZero (fin s m e) = s && eqb m 0
+
+-- the order of max and min (document 02, C-14): a < b, or -0 and +0
+unfoldable pub isBelow : Float → Float → Bool
+isBelow a b = lt a b || (isMinusZero a && isPlusZero b)
+
+-- max: b if a is NaN; a if b is NaN; b if a is below b; else a
+unfoldable pub maxOf : Float → Float → Float
+maxOf a b = cond (isNan a) b (cond (isNan b) a (cond (isBelow a b) b a))
+
+-- min: likewise with b below a
 unfoldable pub minOf : Float → Float → Float
-minOf a b = cond (isNan a) b (cond (isNan b) a (cond (lt b a) b a))
+minOf a b = cond (isNan a) b (cond (isNan b) a (cond (isBelow b a) b a))
 
 -- Rust's clamp: below the low end the low end, above the high end the high end, else the number itself
 unfoldable pub clampOf : Float → Float → Float → Float

@@ -1,22 +1,36 @@
 // The float leaves of lane.rs for the lane f32, and document 01's stand-ins for library functions.
 ghost use mathlib.Core.Path.{_≡_};
 ghost use Rattle.lane.specs.Floats.{fma};
-ghost use Rattle.lane.specs.Lane.{maxOf, minOf, clampOf, exp2Of, pow10Of, expOf, tanOf, softClip, saturationGain};
+ghost use Rattle.lane.specs.Lane.{isMinusZero, maxOf, minOf, clampOf, exp2Of, pow10Of, expOf, tanOf, softClip, saturationGain};
 
-// The larger of two; a NaN gives way to the other.
+// Whether x is -0, by its bits.
+fn is_minus_zero(x: f32) -> bool
+    ensures { λ r. ⌜ r ≡ isMinusZero x ⌝ }
+{
+    if x != x {
+        return false;
+    }
+    f32::to_bits(x) == 2147483648
+}
+
+// The larger of two, -0 being below +0; a NaN gives way to the other. Where b is a number other than -0 one comparison decides; of a
+// constant the tests before it cost nothing.
 pub fn max(a: f32, b: f32) -> f32
     ensures { λ r. ⌜ r ≡ maxOf a b ⌝ }
 {
-    if a != a {
-        return b;
-    }
     if b != b {
         return a;
     }
-    if a < b { b } else { a }
+    if is_minus_zero(b) {
+        if a != a {
+            return b;
+        }
+        return if a < b { b } else { a };
+    }
+    if b < a { a } else { b }
 }
 
-// The smaller of two; a NaN gives way to the other.
+// The smaller of two, likewise. Where b is other than -0 document 01's comparison serves.
 pub fn min(a: f32, b: f32) -> f32
     ensures { λ r. ⌜ r ≡ minOf a b ⌝ }
 {
@@ -25,6 +39,9 @@ pub fn min(a: f32, b: f32) -> f32
     }
     if b != b {
         return a;
+    }
+    if is_minus_zero(b) {
+        return if a < b { a } else { b };
     }
     if b < a { b } else { a }
 }

@@ -1,0 +1,75 @@
+-- For the proofs: nothing here must be believed.
+-- A number is written in one way: of one sign and one size, two values that a format holds are the same value. By their patterns, which
+-- go by sign and size alone. Assumes nothing.
+use mathlib.Core.Path.{_≡_, refl, sym, ap, _∙_, subst}
+use mathlib.Core.Bool.{Bool, true, false, cond, _||_, Bool·beq}
+use Prim.Native.Nat.{ℕ, suc, _+_, _-_, _*_, _/_, _^_}
+use native.Mathlib.Nat.{mul-assoc, mul-comm, mul-one, zero-mul}
+use native.Mathlib.Omega.{arith}
+use lib.IntN.{ℤ, pos}
+use lib.Dec.{T, eqb, eqb→eq}
+use lib.Ieee.{Float, nan, inf, fin, Format, binary32, prec, low, hid, top, up, down, size, add, sub, neg, eq, fits, toBits, ofBits}
+use lib.Ieee.Bits.{ofBits-toBits}
+use lib.Ieee.Fits.{up-pos, down-pos, and-l, and-r, add-fits, neg-fits}
+use lib.Ieee.Nearest.{div-same}
+use Rattle.bits.specs.Zeros.{Zero, zero-factor, alike, zero-plus}
+
+-- in units of a scale w the two sizes are one fraction
+same-size : (a b c d w : ℕ) → a * d ≡ c * b → a * w * d ≡ c * w * b
+same-size a b c d w h = swap a w d ∙ ap (λ (k : ℕ). k * w) h ∙ sym (swap c w b)
+  where
+    swap : (a w d : ℕ) → a * w * d ≡ a * d * w
+    swap a w d = mul-assoc a w d ∙ ap (λ (k : ℕ). a * k) (mul-comm w d) ∙ sym (mul-assoc a d w)
+
+pub same-pattern : (f : Format) (s : Bool) (m : ℕ) (e : ℤ) (n : ℕ) (d : ℤ) → m * up e * down d ≡ n * up d * down e
+    → toBits f (fin s m e) ≡ toBits f (fin s n d)
+unfolding toBits
+same-pattern f s m e n d h =
+    ap (λ (k : ℕ). cond s (top f) 0 + (size k - prec f) * hid f + k / 2 ^ (size k - prec f))
+    (div-same (m * up e * 2 ^ low f) (down e) (n * up d * 2 ^ low f) (down d) (down-pos e) (down-pos d)
+    (same-size (m * up e) (down e) (n * up d) (down d) (2 ^ low f) h))
+
+pub same-value : (f : Format) (s : Bool) (m : ℕ) (e : ℤ) (n : ℕ) (d : ℤ) → T (fits f (fin s m e)) → T (fits f (fin s n d))
+    → m * up e * down d ≡ n * up d * down e → fin s m e ≡ fin s n d
+same-value f s m e n d p q h =
+    sym (ofBits-toBits f (fin s m e) p) ∙ ap (ofBits f) (same-pattern f s m e n d h) ∙ ofBits-toBits f (fin s n d) q
+
+-- two equal numbers that are no zeros
+pub equal-same : (f : Format) (x y : Float) → T (fits f x) → T (fits f y) → T (eq x y) → (Zero y → ⊥) → x ≡ y
+unfolding eq
+equal-same f nan y p q h z = absurd h
+equal-same f (inf s) nan p q h z = absurd h
+equal-same f (inf s) (inf t) p q h z = ap inf (alike s t h)
+equal-same f (inf s) (fin t n d) p q h z = absurd h
+equal-same f (fin s m e) nan p q h z = absurd h
+equal-same f (fin s m e) (inf t) p q h z = absurd h
+equal-same f (fin s m e) (fin t n d) p q h z =
+    let a = m * up e * down d in
+    let size : a ≡ n * up d * down e = eqb→eq a (n * up d * down e) (and-l (eqb a (n * up d * down e)) (Bool·beq s t || eqb a 0) h) in
+    let sign : s ≡ t = go (Bool·beq s t) (alike s t) size (and-r (eqb a (n * up d * down e)) (Bool·beq s t || eqb a 0) h) in
+    ap (λ (b : Bool). fin b m e) sign
+    ∙ same-value f t m e n d (subst (λ (b : Bool). T (fits f (fin b m e))) sign p) q size
+  where
+    go : (b : Bool) → (T b → s ≡ t) → m * up e * down d ≡ n * up d * down e → T (b || eqb (m * up e * down d) 0) → s ≡ t
+    go true g w k = g tt
+    go false g w k =
+        absurd (z (zero-factor n (up d) (up-pos d) (zero-factor (n * up d) (down e) (down-pos e) (sym w ∙ eqb→eq (m * up e * down d) 0 k))))
+
+-- 0 less a number that is no zero is that number with the other sign
+pub zero-less : (s : Bool) (m : ℕ) (e : ℤ) → T (fits binary32 (fin s (suc m) e))
+    → sub binary32 (fin false 0 (pos 0)) (fin s (suc m) e) ≡ neg (fin s (suc m) e)
+unfolding sub neg
+zero-less s m e h =
+    let y : Float = neg (fin s (suc m) e) in
+    let f : T (fits binary32 y) = neg-fits binary32 (fin s (suc m) e) h in
+    equal-same binary32 (add binary32 (fin false 0 (pos 0)) y) y (add-fits binary32 (fin false 0 (pos 0)) y) f
+    (zero-plus (fin false 0 (pos 0)) y refl f tt)
+    (λ (z : suc m ≡ 0). omega arith)
+
+-- a zero has the exponent 0
+pub zero-fits : (f : Format) (s : Bool) → T (fits f (fin s 0 (pos 0)))
+unfolding fits
+zero-fits f s = tt
+
+pub zero-form : (f : Format) (s : Bool) (e : ℤ) → T (fits f (fin s 0 e)) → fin s 0 e ≡ fin s 0 (pos 0)
+zero-form f s e h = same-value f s 0 e 0 (pos 0) h (zero-fits f s) (mul-one (0 * up e) ∙ zero-mul (up e) ∙ sym (zero-mul (down e)))
