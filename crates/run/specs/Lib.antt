@@ -2,3 +2,4 @@
 pub mod Run
 pub mod Contracts
 pub mod Laws
+pub mod Zeros

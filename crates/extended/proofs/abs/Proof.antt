@@ -36,7 +36,7 @@ abs-is nan h = refl
 abs-is (inf true) h = refl
 abs-is (inf false) h = refl
 abs-is (fin s zero e) h = subst (λ (x : Float). absOf x ≡ compared x (sub binary32 (fin false 0 (pos 0)) x)) (sym (zero-form binary32 s e h)) (of-zero s)
-abs-is (fin s (suc m) e) h = of-other s m e h ∙ ap (compared (fin s (suc m) e)) (sym (zero-less s m e h))
+abs-is (fin s (suc m) e) h = of-other s m e h ∙ ap (compared (fin s (suc m) e)) (sym (zero-less false s m e h))
 
 of-x : (c : tie.Start) → absOf (c .args .x) ≡ compared (c .args .x) (sub binary32 (fin false 0 (pos 0)) (c .args .x))
 of-x c = abs-is (c .args .x) (subst T (sym (c .good .0 .1)) tt)
