@@ -200,6 +200,11 @@ int main(int count, char **words)
     }
     printf("rendered %d blocks of %d frames: peaks %.4f left, %.4f right, checksum %08x\n", BLOCKS, BLOCK, (double)peak(0), (double)peak(1),
            checksum());
+    printf("peaks of the voices since they started:");
+    for (size_t c = 0; c < CHANNELS; c++)
+        for (size_t v = 0; v < VOICES; v++)
+            printf("%s %.4f", v > 0 ? "" : c == 0 ? " left" : ", right", (double)sentivolus_bank_peak(&setup, &bank, c, v));
+    printf("\n");
 
     /* The sweep ends at pitch 117 and the ceiling is near 137.9. At pitch 138 the offset of 2 puts the right channel over it, the left one below. */
     for (size_t i = 0; i < BLOCK * VOICES; i++)

@@ -30,7 +30,8 @@
  * Layouts (slot = channel * voices + voice)
  *
  *   targets     10 a voice: resonance, drive, drive gain, inverse knee, offset, mix, level, character, x, y
- *   records     30 a slot: ten smoothed numbers in the order of targets, then twenty states
+ *   records     31 a slot: ten smoothed numbers in the order of targets, twenty states, the peak. After each frame the peak is
+ *               sentivolus_max(peak, |sample|) of the sample handed back, after mix and level. Start clears it to +0, set leaves it
  *   delay       sentivolus_ring_len(rate) a slot: the ring
  *   pitch, x, y [frame][voice]; x and y are empty in an unsteered block
  *   audio       [frame][channel][voice], filtered in place
@@ -43,7 +44,8 @@
  *               unused, floats as their bits, NaN as 7fc00000; then the word that makes the sum of all 128 words zero modulo 2^32.
  *               Kind 1, parts 0 and 1, byte 1 zero: code, voices, channels, clean 0 or 1, rate, reference, cursor low, cursor high, active,
  *               sections, gain. Kind 2, part 0: a voice's targets. Kind 3, part 0: a slot's record. Kind 4: a slot's ring, cell 0 first, 126 a part.
- *               Written by kind, then voice or slot, then part. Read in any order; unused words are ignored, and any NaN is taken
+ *               Written by kind, then voice or slot, then part. Read in any order; unused words are ignored, and any NaN is taken. Files of versions
+ *               before 700 hold 0 where the peak stands
  */
 #ifndef SENTIVOLUS_H
 #define SENTIVOLUS_H
@@ -59,7 +61,7 @@ extern "C" {
 
 /* 10,000 x major + 100 x minor + patch. It grows with every change of a call, a struct or a layout; sentivolus_version() gives that of the
  * archive. */
-#define SENTIVOLUS_VERSION 600
+#define SENTIVOLUS_VERSION 700
 
 enum {
     SENTIVOLUS_MOST_VOICES = 16,
@@ -67,7 +69,8 @@ enum {
     SENTIVOLUS_MOST_FRAMES = 4096, /* in a block */
     SENTIVOLUS_PARAMS = 9,         /* settings of a voice */
     SENTIVOLUS_TARGETS = 10,       /* numbers a voice */
-    SENTIVOLUS_RECORD = 30,        /* numbers a slot */
+    SENTIVOLUS_RECORD = 31,        /* numbers a slot */
+    SENTIVOLUS_PEAK = 30,          /* the peak's place in a record */
     SENTIVOLUS_STATES = 4,         /* of a pole-zero design */
     SENTIVOLUS_POINTS = 8,         /* a state */
     SENTIVOLUS_SECTIONS = 160      /* numbers of a pole-zero table */
@@ -219,7 +222,7 @@ uint32_t sentivolus_set(uint32_t code, float rate, float reference, size_t voice
                         float resonance, float drive, float saturation, float character, float stereo_offset, float mix,
                         float level, float morph_x, float morph_y);
 
-/* Copies a voice's targets to its smoothed numbers on every channel and zeroes its states and rings. The cursor stays. */
+/* Copies a voice's targets to its smoothed numbers on every channel and zeroes its states, peaks and rings. The cursor stays. */
 uint32_t sentivolus_start(uint32_t code, float rate, float reference, size_t voices, size_t channels, bool clean,
                           uint32_t active, const float sections[], float gain,
                           const float *targets, size_t targets_len, float *records, size_t records_len,
@@ -432,7 +435,7 @@ static inline sentivolus_refusal sentivolus_bank_set(const sentivolus_setup *s, 
     return (sentivolus_refusal)answer;
 }
 
-/* Starts one voice: its settings without a glide, its states and rings silent. Refusals 1 to 7. */
+/* Starts one voice: its settings without a glide, its states and rings silent, its peaks 0. Refusals 1 to 7. */
 static inline sentivolus_refusal sentivolus_bank_start(const sentivolus_setup *s, sentivolus_bank *b, size_t voice)
 {
     unsigned before = sentivolus_floats_enter();
@@ -453,6 +456,16 @@ static inline sentivolus_refusal sentivolus_bank_block(const sentivolus_setup *s
     sentivolus_floats_leave(before);
     b->cursor = cursor;
     return (sentivolus_refusal)answer;
+}
+
+/* A slot's peak: the greatest |sample| that blocks have handed back for this voice on this channel since the voice was started, 0 before the first. A
+ * NaN sample leaves it, an infinite one makes it infinite. 0 for a slot that the setup or the records have not. */
+static inline float sentivolus_bank_peak(const sentivolus_setup *s, const sentivolus_bank *b, size_t channel, size_t voice)
+{
+    size_t slot = channel * s->voices + voice;
+    if (channel >= s->channels || voice >= s->voices || slot >= b->records_len / SENTIVOLUS_RECORD)
+        return 0.0f;
+    return b->records[SENTIVOLUS_RECORD * slot + SENTIVOLUS_PEAK];
 }
 
 /* Parks a bank in a file of sentivolus_file_len(s) bytes. The bank stays as it is. Refusals 1 to 6; 6 measures the file too. */

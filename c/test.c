@@ -1,6 +1,6 @@
 /* What the declarations cannot say: that the calls give the same bits in every float environment and give the caller's back, that each number
- * arrives where it is meant to, that a parked file is as the header lays it out, and that the stack suffices. Prints `c: N checks` and answers 0,
- * or says which failed. */
+ * arrives where it is meant to, that a parked file is as the header lays it out, that peaks are of the samples handed back, and that the stack suffices.
+ * Prints `c: N checks` and answers 0, or says which failed. */
 #define _GNU_SOURCE
 #include "sentivolus.h"
 #include <math.h>
@@ -215,7 +215,7 @@ static void refusals(void)
     }
     make(t, 9);
     check(sentivolus_setup_check(&t->setup) == SENTIVOLUS_ACCEPTED, "a right setup", 0);
-    check(sentivolus_targets_len(&t->setup) == 20 && sentivolus_records_len(&t->setup) == 120 && sentivolus_delay_len(&t->setup) == 4 * RING &&
+    check(sentivolus_targets_len(&t->setup) == 20 && sentivolus_records_len(&t->setup) == 124 && sentivolus_delay_len(&t->setup) == 4 * RING &&
           sentivolus_counts_len(&t->setup) == SLOTS && sentivolus_file_len(&t->setup) == FILE_LEN, "its lengths", 0);
     t->bank.delay_len--;
     check(sentivolus_bank_open(&t->setup, &t->bank) == SENTIVOLUS_REFUSED_STORE, "a short list", 6);
@@ -540,6 +540,111 @@ static void file_refusals(void)
     check(!memcmp(t->delay, u->delay, sizeof t->delay) && same_setup(&t->setup, &u->setup), "the bank stays", 0);
 }
 
+/* ---- the peak */
+
+static int peaks_are(const session *t, const float peaks[SLOTS])
+{
+    int all = 1;
+    for (size_t slot = 0; slot < SLOTS; slot++)
+        all &= word_of(sentivolus_bank_peak(&t->setup, &t->bank, slot / VOICES, slot % VOICES)) == word_of(peaks[slot]);
+    return all;
+}
+
+/* Raises each slot's greatest magnitude by the session's audio. */
+static void hear(const session *t, float greatest[SLOTS])
+{
+    for (size_t i = 0; i < FRAMES * SLOTS; i++)
+        greatest[i % SLOTS] = fmaxf(greatest[i % SLOTS], fabsf(t->audio[i]));
+}
+
+/* The peaks are of the samples handed back, go on over blocks and sets, are parked, and a start clears those of its voice alone. */
+static void peaks(void)
+{
+    const float none[SLOTS] = {0};
+    session *t = &other;
+    for (uint32_t code = 1; code <= 12; code++) {
+        sentivolus_params p = loud();
+        float greatest[SLOTS] = {0};
+        make(t, code);
+        check(!sentivolus_bank_open(&t->setup, &t->bank) && peaks_are(t, none), "no peak in an opened bank", (int)code);
+        for (int block = 0; block < 3; block++) {
+            p.level = 3.0f - (float)block;
+            check(!sentivolus_bank_set(&t->setup, &t->bank, 0, &p) && peaks_are(t, greatest), "a set leaves the peaks", (int)code);
+            check(!render(t, SLOTS), "a block", (int)code);
+            hear(t, greatest);
+            check(peaks_are(t, greatest), "the peaks of the samples so far", (int)code);
+        }
+        check(greatest[0] > greatest[1] && greatest[2] > greatest[3], "voice 0 is the louder", (int)code);
+        check(!sentivolus_bank_park(&t->setup, &t->bank, t->file, FILE_LEN), "peaks parked", (int)code);
+        spoil(t);
+        check(!sentivolus_bank_restore(t->file, FILE_LEN, &t->setup, &t->bank) && peaks_are(t, greatest), "peaks restored", (int)code);
+        greatest[1] = greatest[3] = 0;
+        check(!sentivolus_bank_start(&t->setup, &t->bank, 1) && peaks_are(t, greatest), "a start clears its voice's peaks", (int)code);
+
+        /* the input at its level */
+        make(t, code);
+        p.mix = 0;
+        p.level = 0.25f;
+        memcpy(greatest, none, sizeof greatest);
+        hear(t, greatest);
+        check(!sentivolus_bank_open(&t->setup, &t->bank) && !sentivolus_bank_set(&t->setup, &t->bank, 0, &p) &&
+              !sentivolus_bank_start(&t->setup, &t->bank, 0) && !render(t, SLOTS), "a bank without filtered sound", (int)code);
+        for (size_t c = 0; c < CHANNELS; c++)
+            check(sentivolus_bank_peak(&t->setup, &t->bank, c, 0) == 0.25f * greatest[c * VOICES], "a peak after mix and level", (int)code);
+    }
+}
+
+/* A peak before a frame, the frame's level and its input to a bank that passes it, and the peak after. At level 0 a negative input gives a sample of -0. */
+static const struct {
+    float before, level, input, after;
+} frame_peaks[] = {
+    {0, 2, 0.25f, 0.5f}, {0, 2, -0.25f, 0.5f}, {0.5f, 2, 0.125f, 0.5f}, {0.5f, 2, NAN, 0.5f}, {0.5f, 2, 3e38f, INFINITY}, {0.5f, 2, -3e38f, INFINITY},
+    {INFINITY, 2, NAN, INFINITY}, {INFINITY, 2, 1, INFINITY}, {7, 2, 0.25f, 7}, {NAN, 2, 0.25f, 0.5f}, {NAN, 2, NAN, NAN}, {NAN, 0, -1, 0},
+    {-0.0f, 2, 0, 0}, {-0.0f, 2, NAN, -0.0f}, {-0.0f, 0, -1, 0}, {-7, 2, -0.25f, 0.5f}, {-7, 0, -1, 0}, {-INFINITY, 2, 0.25f, 0.5f}};
+
+/* The last slot's peak from any before, forged ones among them; the other slots stay at 0. Then slots that are none. */
+static void forged_peaks(void)
+{
+    session *t = &other;
+    sentivolus_params p = sentivolus_default_params();
+    make(t, SENTIVOLUS_POLE_ZERO);
+    t->input.frames = 1;
+    t->input.pitch_len = VOICES;
+    t->input.steered = false;
+    t->input.x_len = t->input.y_len = 0;
+    check(!sentivolus_bank_open(&t->setup, &t->bank), "a bank that passes its input", 0);
+    for (size_t i = 0; i < sizeof frame_peaks / sizeof frame_peaks[0]; i++) {
+        float audio[SLOTS] = {0, 0, 0, frame_peaks[i].input}, after[SLOTS] = {0, 0, 0, frame_peaks[i].after};
+        p.level = frame_peaks[i].level;
+        check(!sentivolus_bank_set(&t->setup, &t->bank, 1, &p) && !sentivolus_bank_start(&t->setup, &t->bank, 1), "its level", (int)i);
+        t->records[SENTIVOLUS_RECORD * 3 + SENTIVOLUS_PEAK] = frame_peaks[i].before;
+        check(!sentivolus_bank_block(&t->setup, &t->bank, &t->input, audio, SLOTS, t->counts, SLOTS) && peaks_are(t, after), "a frame's peak", (int)i);
+    }
+    for (size_t slot = 0; slot < SLOTS; slot++)
+        t->records[SENTIVOLUS_RECORD * slot + SENTIVOLUS_PEAK] = 7;
+    check(!sentivolus_bank_peak(&t->setup, &t->bank, 0, VOICES) && !sentivolus_bank_peak(&t->setup, &t->bank, CHANNELS, 0) &&
+          !sentivolus_bank_peak(&t->setup, &t->bank, SIZE_MAX, 1) && !sentivolus_bank_peak(&t->setup, &t->bank, 1, SIZE_MAX), "no such slot", 0);
+    t->bank.records_len--;
+    check(!sentivolus_bank_peak(&t->setup, &t->bank, 1, 1) && sentivolus_bank_peak(&t->setup, &t->bank, 1, 0) == 7, "a short list", 0);
+}
+
+/* A file parked before a record had its peak holds 0 there: the bank comes back with every peak 0, all else as it was. */
+static void earlier_files(void)
+{
+    session *t = &usual, *u = &other;
+    raw_block(t, SENTIVOLUS_COMB2, SENTIVOLUS_MXCSR);
+    check(!sentivolus_bank_park(&t->setup, &t->bank, t->file, FILE_LEN), "a file", 0);
+    memcpy(u, t, sizeof *u);
+    for (size_t slot = 0; slot < SLOTS; slot++) {
+        put_word(t->file + BYTES * (2 + VOICES + slot), 1 + SENTIVOLUS_PEAK, 0);
+        check(u->records[SENTIVOLUS_RECORD * slot + SENTIVOLUS_PEAK] > 0, "a peak", (int)slot);
+        u->records[SENTIVOLUS_RECORD * slot + SENTIVOLUS_PEAK] = 0;
+    }
+    memcpy(u->file, t->file, FILE_LEN);
+    spoil(t);
+    check(!sentivolus_bank_restore(t->file, FILE_LEN, &t->setup, &t->bank) && same(t, u), "a file without peaks", 0);
+}
+
 /* ---- the stack: what the calls leave untouched of a painted one */
 
 enum { STACK = 1 << 18, PAINT = 0x5A };
@@ -620,6 +725,9 @@ int main(void)
     one_voice();
     parked_nans();
     file_refusals();
+    peaks();
+    forged_peaks();
+    earlier_files();
     stacks();
     printf("c: %d checks, %d failed\n", checks, failures);
     return failures != 0;

@@ -30,6 +30,14 @@ unsafe extern "C" {
     fn sentivolus_read(buf: *const f32, buf_len: usize, len: usize, cursor: usize, slot: usize, delay: f32) -> f32;
 }
 
+// Of an earlier archive, whose names bench.sh put `before_` before.
+#[cfg(before)]
+unsafe extern "C" {
+    fn before_sentivolus_version() -> u32;
+    fn before_sentivolus_root();
+    fn before_sentivolus_block();
+}
+
 /// ns a call of a leaf, the calls independent of each other.
 fn leaf(call: &dyn Fn(f32) -> f32, low: f32, high: f32) -> f64 {
     let mut r = generate::Rng::new(9);
@@ -99,7 +107,6 @@ fn time_ours() -> [f64; 3] { time_roots(|x| unsafe { sentivolus_root(x) }) }
 /// The same of an earlier archive. Up to version 400 its root took a table: entry j the whole root of 64 j.
 #[cfg(before)]
 fn time_before() -> [f64; 3] {
-    unsafe extern "C" { fn before_sentivolus_root(); fn before_sentivolus_version() -> u32; }
     let name = before_sentivolus_root as *const ();
     unsafe {
         if before_sentivolus_version() <= 400 {
@@ -158,6 +165,17 @@ fn case(code: u32, rate: f32, voices: usize, channels: usize, frames: usize, mov
     Case { engine: e, frames, pitch, audio }
 }
 
+/// Numbers a slot in records: here and in the Rust; and in the proved library, whose last one is the peak.
+const WITHOUT_PEAK: usize = 30;
+const RECORD: usize = 31;
+
+/// The engine with so many numbers a slot in its records.
+fn at_width(e: &Engine, width: usize) -> Engine {
+    let had = e.r.len() / counts_of(e).len();
+    let r = e.r.chunks(had).flat_map(|r| r.iter().copied().chain(std::iter::repeat(0.0)).take(width)).collect();
+    Engine { r, ..e.clone() }
+}
+
 /// A block of the proved library's.
 fn block(e: &mut Engine, sections: &[f32], pitch: &[f32], audio: &mut [f32], counts: &mut [u32], frames: usize) {
     let s = e.setup;
@@ -172,13 +190,12 @@ fn block(e: &mut Engine, sections: &[f32], pitch: &[f32], audio: &mut [f32], cou
     assert_eq!((refused, done), (0, frames));
 }
 
-/// The same of an earlier archive, whose names bench.sh put `before_` before. Up to version 200 it took no counts.
+/// The same of an earlier archive. Up to version 200 it took no counts.
 #[cfg(before)]
 fn block_before(e: &mut Engine, sections: &[f32], pitch: &[f32], audio: &mut [f32], counts: &mut [u32], frames: usize) {
     macro_rules! block_type { ($($counts:ty),*) => { unsafe extern "C" fn(u32, f32, f32, usize, usize, bool, u32, *const f32, f32, *mut usize,
         *const f32, usize, *mut f32, usize, *mut f32, usize, usize, *const f32, usize, bool, *const f32, usize, *const f32, usize,
         *mut f32, usize, $($counts,)* *mut usize) -> u32 } }
-    unsafe extern "C" { fn before_sentivolus_block(); fn before_sentivolus_version() -> u32; }
     let s = e.setup;
     let mut done = 0usize;
     let none = std::ptr::NonNull::dangling().as_ptr();
@@ -200,8 +217,10 @@ fn sections_of(e: &Engine) -> Vec<f32> { e.table.sections.iter().flatten().flatt
 
 fn counts_of(e: &Engine) -> Vec<u32> { vec![0; (e.setup.voices * e.setup.channels) as usize] }
 
-/// A block, of this archive or of an earlier one: engine, sections, pitch, audio, counts, frames.
-type Block = fn(&mut Engine, &[f32], &[f32], &mut [f32], &mut [u32], usize);
+/// A block, of this archive or of an earlier one: engine, sections, pitch, audio, counts, frames. With it the width of its records.
+type Block = (fn(&mut Engine, &[f32], &[f32], &mut [f32], &mut [u32], usize), usize);
+
+const OURS: Block = (block, RECORD);
 
 /// Best of several runs of each block and of the Rust, all taking turns. With `anew` each run starts from the case's state, which is put back outside
 /// of the time taken.
@@ -210,17 +229,17 @@ fn measure_each<const N: usize>(c: &Case, millis: u128, anew: bool, blocks: [Blo
     let reps = (16_000 / per).max(1);
     let sections = sections_of(&c.engine);
     let mut counts = counts_of(&c.engine);
-    let mut ours = blocks.map(|_| c.engine.clone());
+    let mut ours = blocks.map(|(_, width)| at_width(&c.engine, width));
     let mut bank = c.engine.clone().bank();
     let mut audio = c.audio.clone();
     let (mut best, mut rust) = ([f64::MAX; N], f64::MAX);
     let begun = Instant::now();
     while begun.elapsed().as_millis() < millis {
-        if anew { (ours, bank) = (blocks.map(|_| c.engine.clone()), c.engine.clone().bank()); }
+        if anew { (ours, bank) = (blocks.map(|(_, width)| at_width(&c.engine, width)), c.engine.clone().bank()); }
         let t = Instant::now();
         for _ in 0..reps { audio.copy_from_slice(&c.audio); extended::dispatch(&mut bank, None, &c.pitch, None, &mut audio, c.frames); }
         rust = rust.min(t.elapsed().as_nanos() as f64 / (reps * per) as f64);
-        for ((block, engine), best) in blocks.iter().zip(&mut ours).zip(&mut best) {
+        for (((block, _), engine), best) in blocks.iter().zip(&mut ours).zip(&mut best) {
             let t = Instant::now();
             for _ in 0..reps { audio.copy_from_slice(&c.audio); block(engine, &sections, &c.pitch, &mut audio, &mut counts, c.frames); }
             *best = best.min(t.elapsed().as_nanos() as f64 / (reps * per) as f64);
@@ -231,7 +250,7 @@ fn measure_each<const N: usize>(c: &Case, millis: u128, anew: bool, blocks: [Blo
 }
 
 fn measure_from(c: &Case, millis: u128, anew: bool) -> (f64, f64) {
-    let ([ours], rust) = measure_each(c, millis, anew, [block]);
+    let ([ours], rust) = measure_each(c, millis, anew, [OURS]);
     (ours, rust)
 }
 
@@ -244,10 +263,12 @@ fn decayed(mut c: Case) -> Case {
     let mut counts = counts_of(&c.engine);
     let second = f(c.engine.setup.rate) as usize / c.frames;
     let mut audio = c.audio.clone();
+    let mut ours = at_width(&c.engine, RECORD);
     for k in 0..6 * second {
         if k < second { audio.copy_from_slice(&c.audio); } else { audio.fill(0.0); }
-        block(&mut c.engine, &sections, &c.pitch, &mut audio, &mut counts, c.frames);
+        block(&mut ours, &sections, &c.pitch, &mut audio, &mut counts, c.frames);
     }
+    c.engine = at_width(&ours, WITHOUT_PEAK);
     c.audio.fill(0.0);
     c
 }
@@ -270,7 +291,7 @@ fn silence(millis: u128) {
 
 /// Microseconds of open, 16 voices stereo, and of start, at a rate.
 fn opening(rate: f32) -> (f64, f64) {
-    let mut e = case(9, rate, 16, 2, 1, false).engine;
+    let mut e = at_width(&case(9, rate, 16, 2, 1, false).engine, RECORD);
     let sections = [0f32; 160];
     let mut best = (f64::MAX, f64::MAX);
     for _ in 0..20 {
@@ -324,7 +345,7 @@ fn restore(e: &mut Engine, file: &[u8]) {
 
 /// ns of a park, of a restore, and of a restore whose blocks stand from the last to the first, taking turns; and the file's blocks.
 fn measure_parking(rate: f32, voices: usize, channels: usize, millis: u128) -> ([f64; 3], usize) {
-    let mut e = case(9, rate, voices, channels, 1, false).engine;
+    let mut e = at_width(&case(9, rate, voices, channels, 1, false).engine, RECORD);
     let mut r = generate::Rng::new(6);
     e.d.iter_mut().for_each(|x| *x = r.range(-0.5, 0.5));
     let sections = sections_of(&e);
@@ -383,6 +404,7 @@ fn grid(millis: u128) {
 /// An earlier archive, this one and the Rust, taking turns.
 #[cfg(before)]
 fn before(millis: u128) {
+    let width = if unsafe { before_sentivolus_version() } <= 600 { WITHOUT_PEAK } else { RECORD };
     println!("| code | pitch | voices x channels / frames: before, after, Rust (after over before) | | | |");
     println!("|---|---|---|---|---|---|");
     println!("| | | 1x1/64 | 1x1/4096 | 16x2/64 | 16x2/4096 |");
@@ -391,7 +413,8 @@ fn before(millis: u128) {
             let mut row = format!("| {code} {:?} | {}", KINDS[code as usize - 1], if moving { "moving" } else { "held" });
             for (v, n) in [(1, 1), (16, 2)] {
                 for frames in [64, 4096] {
-                    let ([a, b], rust) = measure_each(&case(code, 48000.0, v, n, frames, moving), millis, false, [block_before, block]);
+                    let blocks: [Block; 2] = [(block_before, width), OURS];
+                    let ([a, b], rust) = measure_each(&case(code, 48000.0, v, n, frames, moving), millis, false, blocks);
                     row += &format!(" | {a:.1}, {b:.1}, {rust:.1} ({:.3})", b / a);
                 }
             }

@@ -68,6 +68,9 @@ KERNEL_FIELDS = ("out", "state", "ring")
 TICK_FIELDS = ("out", "rec", "ring")
 TICK_COUNT = "over"
 
+# document 02's rule for a slot's peak (C-15), in Rust: of the peak before, a, and the sample handed back, b
+PEAK = "a.max_(abs(b))"
+
 # fields of CONSTANTS, and the variables of Run::go that they are
 CONSTANT_FIELDS = (("alpha", "alpha"), ("clip_in", "clip_in"), ("clip_out", "clip_out"), ("smooth_samples", "smooth_samples"),
                    ("ref_over_rate", "reference_ratio"))
@@ -151,17 +154,17 @@ def design(number):
 
 
 def slot(i):
-    """What a slot has before a frame: its input, its ten smoothed numbers and twenty states, its ring."""
-    return {"input": Tree("in%d" % i), "numbers": floats("number%d_" % i, 30), "ring": Tree("ring%d" % i)}
+    """What a slot has before a frame: its input, its ten smoothed numbers, twenty states and peak, its ring."""
+    return {"input": Tree("in%d" % i), "numbers": floats("number%d_" % i, 31), "ring": Tree("ring%d" % i)}
 
 
 def rust_bank(clean, channels, slots, rust_table):
-    """The Rust's bank with these slots."""
+    """The Rust's bank with these slots. It has no peaks."""
     rows = [list(row) for row in zip(*[each["numbers"] for each in slots])]
     targets = [list(row) for row in zip(*[floats("target%d_" % voice, 10) for voice in range(VOICES)])]
     return {"": "FilterBank", "voices": VOICES, "channels": channels, "stride": VOICES, "clean": clean, "rate": Tree("rate"),
             "reference": Tree("reference"), "targets": targets[:8], "morph_targets": targets[8:], "smoothed": rows[:8],
-            "morph_smoothed": rows[8:10], "state": rows[10:], "delay": [each["ring"] for each in slots],
+            "morph_smoothed": rows[8:10], "state": rows[10:30], "delay": [each["ring"] for each in slots],
             "ring": Tree("len"), "cursor": Tree("cursor"), "pole_zero": rust_table}
 
 
@@ -330,7 +333,8 @@ class Comparison:
             tick = self.definitions.call(TICK, given, PARAMETERS)
             kept = [row[i] for part in ("smoothed", "morph_smoothed", "state") for row in bank[part]]
             what = "%d, clean %s, steered %s, channel %d of %d, voice %d" % (code, clean, steered, channel, channels, voice)
-            left = [run["audio"][i], kept, bank["delay"][i]]
+            peak = self.rust.evaluate(PEAK, {"a": each["numbers"][30], "b": run["audio"][i]})
+            left = [run["audio"][i], kept + [peak], bank["delay"][i]]
             self.same("tick of " + what, [tick[field] for field in TICK_FIELDS], left)
             self.judged("the tick of " + what, code, ours["active"], tick[TICK_COUNT], left)
 

@@ -24,6 +24,7 @@ SLIPS = (
     ("the voice's pitch judged in DjSweep", "sweeps/specs/Sweeps.antt", r"overOf \(djPitch .*\) \(p", "overOf pitch (p"),
     ("one of Comb2's reads judged", "kernels/specs/Kernels.antt", r"once \(combOver pitch p\) \+ ", ""),
     ("the pitch before the lag judged", "run/specs/Run.antt", r"overCount code table \(record \{ 0 = after", "overCount code table (record { 0 = at"),
+    ("the peak of the sound before mix and level", "run/specs/Run.antt", r"peakOf \(rec ‼ PEAK\) out", "peakOf (rec ‼ PEAK) (t .out)"),
     ("two settings' places swapped", "filter/specs/Voice.antt", r"LEVEL = 6", "LEVEL = 5"),
 )
 

@@ -15,7 +15,7 @@ pub struct Oracle {
 }
 
 /// The requests in force, by the last one's number: the program's STAGE. The files that it writes then are those that this replays.
-const STAGE: &str = "14";
+const STAGE: &str = "15";
 
 /// How many random inputs of a leaf `leafgen` is asked for, and the rows that it then writes at this stage.
 const INPUTS: &str = "240";

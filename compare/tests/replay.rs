@@ -4,13 +4,13 @@ mod common;
 
 use common::{compare, stored, written, Ended};
 
-const OPEN: &str = "open 2 45fa0000 43dc0000 1 1 0 10 30 1024\n";
+const OPEN: &str = "open 2 45fa0000 43dc0000 1 1 0 10 31 1024\n";
 
 /// The same bank opened and parked, with its answers.
-const PARKED: &str = "open 2 45fa0000 43dc0000 1 1 0 10 30 1024\n= ok 0\npark 6656\n= ok\nh 00000680 35a9d4a8\n";
+const PARKED: &str = "open 2 45fa0000 43dc0000 1 1 0 10 31 1024\n= ok 0\npark 6656\n= ok\nh 00000680 35a9d4a8\n";
 
 /// A file restored, and what it answers.
-const RESTORE: &str = "restore 10 30 1024\n";
+const RESTORE: &str = "restore 10 31 1024\n";
 const RESTORED: &str = "= ok 0\ns 2 45fa0000 43dc0000 1 1 0 0 3f800000\n";
 
 /// A frame that is over the pitch ceiling there, and what it answers.
@@ -25,18 +25,18 @@ const SCENARIOS: [(&str, &str); 50] = [
     ("dump\r", "line 2: expected a call, a preparation, an answer or a comment, found \"dump\\r\""),
     ("dump 1", "line 2: expected the line's end, found \"1\""),
     ("open", "line 2: expected a whole number that fits 32 bits, found the line's end"),
-    ("open 4294967298 45fa0000 43dc0000 1 1 0 10 30 1024", "line 2: expected a whole number that fits 32 bits, found \"4294967298\""),
-    ("open -1 45fa0000 43dc0000 1 1 0 10 30 1024", "line 2: expected a whole number that fits 32 bits, found \"-1\""),
-    ("open 2 45fa000 43dc0000 1 1 0 10 30 1024", "line 2: expected eight lower-case hexadecimal digits, found \"45fa000\""),
-    ("open 2 45fa00000 43dc0000 1 1 0 10 30 1024", "line 2: expected eight lower-case hexadecimal digits, found \"45fa00000\""),
-    ("open 2 45FA0000 43dc0000 1 1 0 10 30 1024", "line 2: expected eight lower-case hexadecimal digits, found \"45FA0000\""),
-    ("open 2 45fa0000 +3dc0000 1 1 0 10 30 1024", "line 2: expected eight lower-case hexadecimal digits, found \"+3dc0000\""),
-    ("open 2 45fa0000  43dc0000 1 1 0 10 30 1024", "line 2: expected eight lower-case hexadecimal digits, found \"\""),
-    ("open 2 45fa0000 43dc0000 +1 1 0 10 30 1024", "line 2: expected a whole number below 2^64, found \"+1\""),
-    ("open 2 45fa0000 43dc0000 1 18446744073709551616 0 10 30 1024", "line 2: expected a whole number below 2^64, found \"18446744073709551616\""),
-    ("open 2 45fa0000 43dc0000 1 1 2 10 30 1024", "line 2: expected 0 or 1, found \"2\""),
-    ("open 2 45fa0000 43dc0000 1 1 0 10 30 16777217", "line 2: expected a whole number, at most 16777216, found \"16777217\""),
-    ("open 2 45fa0000 43dc0000 1 1 0 10 30 1024 0", "line 2: expected the line's end, found \"0\""),
+    ("open 4294967298 45fa0000 43dc0000 1 1 0 10 31 1024", "line 2: expected a whole number that fits 32 bits, found \"4294967298\""),
+    ("open -1 45fa0000 43dc0000 1 1 0 10 31 1024", "line 2: expected a whole number that fits 32 bits, found \"-1\""),
+    ("open 2 45fa000 43dc0000 1 1 0 10 31 1024", "line 2: expected eight lower-case hexadecimal digits, found \"45fa000\""),
+    ("open 2 45fa00000 43dc0000 1 1 0 10 31 1024", "line 2: expected eight lower-case hexadecimal digits, found \"45fa00000\""),
+    ("open 2 45FA0000 43dc0000 1 1 0 10 31 1024", "line 2: expected eight lower-case hexadecimal digits, found \"45FA0000\""),
+    ("open 2 45fa0000 +3dc0000 1 1 0 10 31 1024", "line 2: expected eight lower-case hexadecimal digits, found \"+3dc0000\""),
+    ("open 2 45fa0000  43dc0000 1 1 0 10 31 1024", "line 2: expected eight lower-case hexadecimal digits, found \"\""),
+    ("open 2 45fa0000 43dc0000 +1 1 0 10 31 1024", "line 2: expected a whole number below 2^64, found \"+1\""),
+    ("open 2 45fa0000 43dc0000 1 18446744073709551616 0 10 31 1024", "line 2: expected a whole number below 2^64, found \"18446744073709551616\""),
+    ("open 2 45fa0000 43dc0000 1 1 2 10 31 1024", "line 2: expected 0 or 1, found \"2\""),
+    ("open 2 45fa0000 43dc0000 1 1 0 10 31 16777217", "line 2: expected a whole number, at most 16777216, found \"16777217\""),
+    ("open 2 45fa0000 43dc0000 1 1 0 10 31 1024 0", "line 2: expected the line's end, found \"0\""),
     ("setup 2 45fa0000 43dc0000 1 1", "line 2: expected 0 or 1, found the line's end"),
     ("setup 2 45fa0000 43dc0000 1 1 0 ", "line 2: expected the line's end, found \"\""),
     ("lend 10 18446744073709551615 0", "line 2: expected a whole number, at most 16777216, found \"18446744073709551615\""),
@@ -62,8 +62,8 @@ const SCENARIOS: [(&str, &str); 50] = [
     ("park", "line 2: expected a whole number, at most 16777216, found the line's end"),
     ("park 16777217", "line 2: expected a whole number, at most 16777216, found \"16777217\""),
     ("park 6656 2", "line 2: expected the line's end, found \"2\""),
-    ("restore 10 30", "line 2: expected a whole number, at most 16777216, found the line's end"),
-    ("restore 10 30 1024 1", "line 2: expected the line's end, found \"1\""),
+    ("restore 10 31", "line 2: expected a whole number, at most 16777216, found the line's end"),
+    ("restore 10 31 1024 1", "line 2: expected the line's end, found \"1\""),
     ("swap 0 0", "line 2: expected one of the file's 0 blocks, from 0, found \"0\""),
     ("byte 0 0", "line 2: expected one of the file's 0 bytes, from 0, found \"0\""),
     ("cut -1", "line 2: expected a whole number below 2^64, found \"-1\""),
@@ -98,12 +98,12 @@ const LEAVES: [(&str, &str); 10] = [
 ];
 
 const IMAGE: &str = "image 9 45fa0000 43dc0000 1 1 0 0 0 3f800000 2 0";
-const LISTS: &str = "n 00000000*160\nc 00000000*8\nt 3f000000*10\nr 00000000*30\nd 00000000*1024\n";
+const LISTS: &str = "n 00000000*160\nc 00000000*8\nt 3f000000*10\nr 00000000*31\nd 00000000*1024\n";
 
 /// Lines of a case on parked files, after its first line.
 const CASES: [(&str, &str); 19] = [
     ("nonsense", "line 2: expected a line of a case, an answer or a comment, found \"nonsense\""),
-    ("stage 15", "line 2: expected stage 12, 13 or 14, found \"15\""),
+    ("stage 14", "line 2: expected stage 15, found \"14\""),
     ("image 4294967296", "line 2: expected a whole number that fits 32 bits, found \"4294967296\""),
     ("image 9 45fa0000 43dc0000 1 1 0 0 0 3f800000", "line 2: expected two axes, found the line's end"),
     ("image 9 45fa0000 43dc0000 1 1 0 0 0 3f800000 3 0", "line 2: expected two axes, found \"3\""),
@@ -118,8 +118,8 @@ const CASES: [(&str, &str); 19] = [
     ("park 2 6656", "line 2: expected edition 1, found \"2\""),
     ("park 1 16777217", "line 2: expected a whole number, at most 16777216, found \"16777217\""),
     ("park 1 6656 1", "line 2: expected the line's end, found \"1\""),
-    ("restore 10 30", "line 2: expected a whole number, at most 16777216, found the line's end"),
-    ("restore 10 30 1024 1", "line 2: expected the line's end, found \"1\""),
+    ("restore 10 31", "line 2: expected a whole number, at most 16777216, found the line's end"),
+    ("restore 10 31 1024 1", "line 2: expected the line's end, found \"1\""),
     ("rewrite 6656", "line 2: expected a line of a case, an answer or a comment, found \"rewrite\""),
 ];
 
@@ -154,11 +154,11 @@ fn malformed_lines_are_named() {
 /// One byte changed at every place of a file, and the file cut there: it is read or refused.
 #[test]
 fn no_damage_ends_a_run() {
-    let table = "table 1 3f800000 3f000000*20\npoke r 29 3f800000\n";
-    let file = format!("{OPEN}{table}lend 9 30 1024\nset 0{}\ncounts 1\n{BLOCK}dump\n", " 3f800000".repeat(9));
+    let table = "table 1 3f800000 3f000000*20\npoke r 30 3f800000\n";
+    let file = format!("{OPEN}{table}lend 9 31 1024\nset 0{}\ncounts 1\n{BLOCK}dump\n", " 3f800000".repeat(9));
     undamaged("run", &file);
     undamaged("run", &format!("{OPEN}park 6656\nswap 0 12\ntwice 3\ndrop 3\nbyte 6655 7\nword 12 127 00000000\nmend 12\n{RESTORE}cut 512\n"));
-    undamaged("file", &format!("stage 12\ncase 0\n{IMAGE}\n{LISTS}park 1 6656\ntake\nbytes 6144\n{RESTORE}file 00000000*128\n"));
+    undamaged("file", &format!("stage 15\ncase 0\n{IMAGE}\n{LISTS}park 1 6656\ntake\nbytes 6144\n{RESTORE}file 00000000*128\n"));
 }
 
 fn undamaged(kind: &str, file: &str) {
@@ -178,7 +178,7 @@ fn undamaged(kind: &str, file: &str) {
 /// A set that is accepted at a lent length writes into the list as far as that goes.
 #[test]
 fn lent_lists_are_parts() {
-    let e = compare(&["run"], format!("{}lend 10 0 0\nset 0{}\ndump\n", OPEN.replace(" 10 30 1024", " 3 0 0"), " 00000000".repeat(9)).as_bytes());
+    let e = compare(&["run"], format!("{}lend 10 0 0\nset 0{}\ndump\n", OPEN.replace(" 10 31 1024", " 3 0 0"), " 00000000".repeat(9)).as_bytes());
     assert_eq!((e.status, e.err.as_str()), (Some(0), ""));
     assert!(e.out.contains("= refused 6\nlend 10 0 0\n") && e.out.ends_with("\ndump\nt 00000000*2 3f800000\nr\nd\n"), "{}", e.out);
 }
@@ -188,7 +188,7 @@ fn lent_lists_are_parts() {
 fn counts_are_lent_to_the_next_block() {
     let refused = "= refused 10\n";
     for (lines, first) in [("", ANSWER), ("counts 1\n", ANSWER), ("counts 0\n", refused), ("counts 2\n", refused), ("counts 16777216\n", refused),
-        ("counts 0\ncounts 1\n", ANSWER), ("counts 1\ncounts 0\n", refused), ("counts 0\nlend 10 30 1024\nstart 0\ncursor 0\n", refused),
+        ("counts 0\ncounts 1\n", ANSWER), ("counts 1\ncounts 0\n", refused), ("counts 0\nlend 10 31 1024\nstart 0\ncursor 0\n", refused),
         (&format!("counts 0\n{OPEN}"), refused), (&format!("counts 0\nscenario b\n{OPEN}"), ANSWER)] {
         let e = compare(&["run"], format!("{OPEN}{lines}{BLOCK}{BLOCK}").as_bytes());
         assert_eq!((e.status, e.err.as_str()), (Some(0), ""), "{lines}");
@@ -232,8 +232,8 @@ fn files_are_edited() {
         ("cut 6657\n", RESTORED.to_string()),
         ("setup 2 7fc00000 43dc0000 1 1 0\npark 6656\n= refused 1\n", RESTORED.to_string()),
         ("park 6655\n= refused 6\n", RESTORED.to_string()),
-        ("lend 10 30 1023\npark 6656\n= refused 6\n", RESTORED.to_string()),
-        ("restore 10 30 1025\n= refused 6\n", RESTORED.to_string()),
+        ("lend 10 31 1023\npark 6656\n= refused 6\n", RESTORED.to_string()),
+        ("restore 10 31 1025\n= refused 6\n", RESTORED.to_string()),
         ("scenario b\n", refused(13)),
     ] {
         let text = format!("{PARKED}{lines}{RESTORE}{answer}");
@@ -246,10 +246,10 @@ fn files_are_edited() {
 #[test]
 fn a_restored_bank_goes_on() {
     let dump = "dump\nt 3dcccccd 00000000 3f800000 3eaaaaab 00000000 3f800000*2 00000000*3\nr 3dcccccd 00000000 3f800000 3eaaaaab 00000000 3f800000*2 \
-        00000000*23\nd 00000000*1024\n";
-    let spoilt = "setup 5 45fa0000 42c80000 1 1 1\ntable 8 00000000\ncursor 9\npoke t 0 00000000*10\npoke r 0 3f800000*30\npoke d 0 3f800000*1024\n";
+        00000000*24\nd 00000000*1024\n";
+    let spoilt = "setup 5 45fa0000 42c80000 1 1 1\ntable 8 00000000\ncursor 9\npoke t 0 00000000*10\npoke r 0 3f800000*31\npoke d 0 3f800000*1024\n";
     let again = "park 6656\n= ok\nh 00000680 35a9d4a8\n";
-    let text = format!("{PARKED}{spoilt}{RESTORE}{RESTORED}{dump}{again}lend 9 30 1024\n{RESTORE}{RESTORED}start 0\n= refused 6\nstart 0\n= ok 0\n");
+    let text = format!("{PARKED}{spoilt}{RESTORE}{RESTORED}{dump}{again}lend 9 31 1024\n{RESTORE}{RESTORED}start 0\n= refused 6\nstart 0\n= ok 0\n");
     let e = compare(&["run"], text.as_bytes());
     assert_eq!((e.status, e.out, e.err.as_str()), (Some(0), text, ""));
 }
@@ -287,7 +287,7 @@ fn differences_are_shown() {
         (format!("{start}{BLOCK}= ok 0 1\no 00000000\nc 0\n"), "line 10\nfile: c 0\nours: c 1"),
         (format!("{start}{BLOCK}= ok 0 1\no 00000000\n"), "line 10\nfile: (no line)\nours: c 1"),
         (format!("{start}counts 2\n{BLOCK}= refused 10\nc 7 7\n"), "line 10\nfile: c 7 7\nours: (no line)"),
-        (format!("{start}dump\n{targets}\nr{record}*22\nd 00000000*1024\n"), &format!("line 5\nfile: r{record}*22\nours: r{record}*23")),
+        (format!("{start}dump\n{targets}\nr{record}*23\nd 00000000*1024\n"), &format!("line 5\nfile: r{record}*23\nours: r{record}*24")),
     ] {
         let e = check("differences", "run", &text);
         assert_eq!((e.status, e.out.as_str(), e.err), (Some(1), "", format!("FILE: differs at {message}\n")));
@@ -321,7 +321,7 @@ fn long_lines_are_cut() {
 #[test]
 fn files_without_an_answer_do_not_pass() {
     for (kind, text) in [("run", ""), ("run", "# nothing\n"), ("run", "scenario a\ncursor 5\n"), ("leaf", ""), ("leaf", "# nothing\n\n"),
-        ("file", ""), ("file", "# nothing\nstage 12\n\ncase 0\nfile 00000000\n")] {
+        ("file", ""), ("file", "# nothing\nstage 15\n\ncase 0\nfile 00000000\n")] {
         let e = check("no_answer", kind, text);
         assert_eq!((e.status, e.out.as_str(), e.err.as_str()), (Some(1), "", "FILE: holds no answer, so nothing is compared\n"), "{text:?}");
     }
@@ -330,7 +330,7 @@ fn files_without_an_answer_do_not_pass() {
 #[test]
 fn a_malformed_file_is_no_difference() {
     malformed(&check("malformed", "run", "scenario a\nopen 4294967298\n"), "line 2: expected a whole number that fits 32 bits, found \"4294967298\"");
-    malformed(&check("malformed", "file", "stage 12\ncase 0\npark 1\n"), "line 3: expected a whole number, at most 16777216, found the line's end");
+    malformed(&check("malformed", "file", "stage 15\ncase 0\npark 1\n"), "line 3: expected a whole number, at most 16777216, found the line's end");
     assert_eq!(compare(&["check", "run", "/nowhere/file"], b"").status, Some(2));
 }
 

@@ -65,6 +65,8 @@ fn main() -> Result<(), Refusal> {
     }
     let (left, right, sum) = (peak(&mix, 0), peak(&mix, 1), checksum(&mix));
     println!("rendered {BLOCKS} blocks of {BLOCK} frames: peaks {left:.4} left, {right:.4} right, checksum {sum:08x}");
+    let peaks = |channel| (0..VOICES).filter_map(|v| bank.peak(channel, v)).map(|p| format!(" {p:.4}")).collect::<String>();
+    println!("peaks of the voices since they started: left{}, right{}", peaks(0), peaks(1));
     // The sweep ends at pitch 117 and the ceiling is near 137.9. At pitch 138 the offset of 2 puts the right channel over it, the left one below.
     pitch.fill(138.0);
     bank.block(Block { frames: BLOCK, pitch: &pitch, steering: None }, &mut audio)?;

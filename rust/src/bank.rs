@@ -1,6 +1,6 @@
 //! A bank that owns its lists.
 
-use crate::{calls, parking, Block, Refusal, Setup, VoiceParams};
+use crate::{calls, parking, Block, Refusal, Setup, VoiceParams, PEAK, RECORD};
 
 /// A bank of voices with its setup, its lists and its cursor. Only [`Bank::open`], [`Bank::clone`], [`Bank::park`] and [`Bank::restore`] allocate.
 ///
@@ -40,7 +40,7 @@ impl Bank {
         calls::set(&self.setup, self.cursor, &mut self.targets, voice, p).map(|_| ())
     }
 
-    /// Starts one voice: its settings without a glide, its states and rings silent.
+    /// Starts one voice: its settings without a glide, its states and rings silent, its peaks 0.
     pub fn start(&mut self, voice: usize) -> Result<(), Refusal> {
         calls::start(&self.setup, self.cursor, &self.targets, &mut self.records, &mut self.delay, voice).map(|_| ())
     }
@@ -102,9 +102,28 @@ impl Bank {
         &self.targets
     }
 
-    /// Its smoothed numbers and states, thirty a slot.
+    /// Its smoothed numbers, states and peaks, [`RECORD`] a slot.
     pub fn records(&self) -> &[f32] {
         &self.records
+    }
+
+    /// A slot's peak: the greatest |sample| that blocks have handed back for this voice on this channel since the voice was started, 0 before the
+    /// first. A NaN sample leaves it, an infinite one makes it infinite. None for a slot that the bank has not.
+    ///
+    /// ```
+    /// use sentivolus::{Bank, Block, Setup, Structure};
+    /// # fn main() -> Result<(), sentivolus::Refusal> {
+    /// let mut bank = Bank::open(Setup::new(Structure::DjSweep, 48000.0, 1, 1))?;
+    /// bank.block(Block { frames: 3, pitch: &[69.0; 3], steering: None }, &mut [0.25, -0.75, 0.5])?;
+    /// assert_eq!((bank.peak(0, 0), bank.peak(0, 1)), (Some(0.75), None));
+    /// bank.start(0)?;
+    /// assert_eq!(bank.peak(0, 0), Some(0.0));
+    /// # Ok(())
+    /// # }
+    /// ```
+    pub fn peak(&self, channel: usize, voice: usize) -> Option<f32> {
+        let Setup { voices, channels, .. } = self.setup;
+        (channel < channels && voice < voices).then(|| self.records[RECORD * (channel * voices + voice) + PEAK])
     }
 
     /// Its rings, slot by slot.

@@ -1,12 +1,19 @@
 //! The bank's calls on lent lists.
 //!
 //! Layouts, with slot = channel × voices + voice: targets 10 a voice (resonance, drive, drive gain, inverse knee, offset, mix, level, character,
-//! x, y); records 30 a slot (ten smoothed numbers in that order, then twenty states); delay [`ring_len`] a slot; pitch, x and y by frame, then
-//! voice; audio by frame, then channel, then voice; counts one a slot.
+//! x, y); records [`RECORD`] a slot (ten smoothed numbers in that order, twenty states, the peak); delay [`ring_len`] a slot; pitch, x and y by
+//! frame, then voice; audio by frame, then channel, then voice; counts one a slot.
 
 use crate::floats::ieee;
 use crate::refusal::answer;
 use crate::{ffi, ring_len, Refusal, Table};
+
+/// Numbers a slot in records: ten smoothed, twenty states, the peak.
+pub const RECORD: usize = 31;
+
+/// Where a slot's record has its peak: after each frame [`max`](crate::max) of the peak and |sample|, of the sample handed back, after mix and level.
+/// [`start`] clears it to +0, [`set`] leaves it.
+pub const PEAK: usize = 30;
 
 /// The structures that a bank's filters can have.
 #[derive(Clone, Copy, Debug, PartialEq, Eq, Hash)]
@@ -79,7 +86,7 @@ impl Setup {
 
     /// The lengths of targets, records and delay that this setup asks for.
     pub fn lengths(&self) -> Result<[usize; 3], Refusal> {
-        self.slots().map(|slots| [10 * self.voices, 30 * slots, ring_len(self.rate) * slots])
+        self.slots().map(|slots| [10 * self.voices, RECORD * slots, ring_len(self.rate) * slots])
     }
 }
 
@@ -167,7 +174,7 @@ pub fn set(s: &Setup, cursor: usize, targets: &mut [f32], voice: usize, p: &Voic
         .map(|()| cursor)
 }
 
-/// Starts one voice: copies its targets to its smoothed numbers and zeroes its states and rings; answers the cursor.
+/// Starts one voice: copies its targets to its smoothed numbers and zeroes its states, peaks and rings; answers the cursor.
 pub fn start(s: &Setup, cursor: usize, targets: &[f32], records: &mut [f32], delay: &mut [f32], voice: usize) -> Result<usize, Refusal> {
     // SAFETY: each pointer and length are of one slice, and those that are written overlap no other.
     answer(call!(sentivolus_start, s, targets.as_ptr(), targets.len(), records.as_mut_ptr(), records.len(), delay.as_mut_ptr(), delay.len(), voice))

@@ -32,7 +32,7 @@ mod parking;
 mod refusal;
 
 pub use bank::Bank;
-pub use calls::{block, block_marked, open, set, start, version, Block, Setup, Structure, VoiceParams};
+pub use calls::{block, block_marked, open, set, start, version, Block, Setup, Structure, VoiceParams, PEAK, RECORD};
 pub use design::{point, section, table, Design, Point, PointKind, Table};
 pub use leaves::{asym, exp2, gain, hermite, log2, max, min, over, ratio_of, read, ring_len};
 pub use leaves::{root, saturation_gain, soft_clip, svf, tan, targets_of};

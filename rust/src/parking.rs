@@ -2,7 +2,8 @@
 //!
 //! A file is made of blocks of 512 bytes, little-endian: byte 0 the kind, byte 1 the voice or slot, bytes 2 and 3 the part, then 126 words, then a
 //! word that makes the sum of all 128 words zero. Kind 1, two parts: code, voices, channels, clean, rate, reference, cursor (low word, high word),
-//! active, 160 sections, gain. Kind 2: a voice's targets. Kind 3: a slot's record. Kind 4: a slot's ring, 126 cells a part.
+//! active, 160 sections, gain. Kind 2: a voice's targets. Kind 3: a slot's record; files of versions before 0.7.0 hold 0 where the peak stands. Kind 4:
+//! a slot's ring, 126 cells a part.
 
 use crate::calls::call;
 use crate::floats::ieee;

@@ -60,7 +60,7 @@ fn each_refusal_of_the_calls() {
     assert_eq!(set(&s, 9, &mut t, usize::MAX, &p), Err(Refusal::Voice));
     assert_eq!(set(&s, 9, &mut t, 0, &VoiceParams { mix: f32::NAN, ..p }), Err(Refusal::Knob));
     assert_eq!(set(&s, 9, &mut t, 0, &p), Ok(9));
-    assert_eq!(start(&s, 9, &t, &mut r[..29], &mut d, 0), Err(Refusal::Store));
+    assert_eq!(start(&s, 9, &t, &mut r[..RECORD - 1], &mut d, 0), Err(Refusal::Store));
     assert_eq!(start(&s, 9, &t, &mut r, &mut d, 1), Err(Refusal::Voice));
     assert_eq!(start(&s, 9, &t, &mut r, &mut d, 0), Ok(9));
     let (mut audio, mut counts) = ([0.25; 2], [7; 2]);
@@ -120,7 +120,7 @@ fn defaults_are_the_archives() {
     assert_eq!(VoiceParams::default(), VoiceParams::from_array([0.1, 0.0, 0.0, 0.0, 0.0, 1.0, 1.0, 0.0, 0.0]));
     let bank = Bank::open(setup()).unwrap();
     assert_eq!(bank.targets(), targets_of(&VoiceParams::default()));
-    assert_eq!(version(), 600);
+    assert_eq!(version(), 700);
 }
 
 #[test]
@@ -181,6 +181,91 @@ fn zeros_in_order() {
     assert_eq!(bits([max(f32::NAN, -0.0), max(-0.0, f32::NAN), min(f32::NAN, 0.0), min(0.0, f32::NAN)]), bits([-0.0, -0.0, 0.0, 0.0]));
     let t = targets_of(&VoiceParams { resonance: -0.0, level: -0.0, ..VoiceParams::default() });
     assert_eq!([t[0].to_bits(), t[6].to_bits()], [(-0.0f32).to_bits(), 0]);
+}
+
+/// Each slot's peak by its bits, of two voices in stereo.
+fn peaks(bank: &Bank) -> [u32; 4] {
+    [(0, 0), (0, 1), (1, 0), (1, 1)].map(|(channel, voice)| bank.peak(channel, voice).unwrap().to_bits())
+}
+
+/// Noise from -0.5 to 0.5.
+fn noise(n: usize) -> Vec<f32> {
+    (0..n).map(|i| (i * 7919 % 1009) as f32 / 1009.0 - 0.5).collect()
+}
+
+/// The peaks are of the samples handed back, go on over blocks and sets, and a start clears those of its voice alone.
+#[test]
+fn peaks_of_every_structure() {
+    for code in 1..=12 {
+        let mut bank = Bank::open(Setup { code, ..Setup::new(Structure::K35, 48000.0, 2, 2) }).unwrap();
+        let mut greatest = [0.0f32; 4];
+        for frames in [5, 1, 64] {
+            let level = 8.0 / frames as f32;
+            bank.set(1, &VoiceParams { resonance: 0.6, drive: 0.5, mix: 0.75, level, ..VoiceParams::default() }).unwrap();
+            assert_eq!(peaks(&bank), greatest.map(f32::to_bits), "code {code}, a set");
+            let mut audio = noise(4 * frames);
+            bank.block(Block { frames, pitch: &vec![60.0; 2 * frames], steering: None }, &mut audio).unwrap();
+            audio.iter().enumerate().for_each(|(i, x)| greatest[i % 4] = greatest[i % 4].max(x.abs()));
+            assert_eq!(peaks(&bank), greatest.map(f32::to_bits), "code {code}, {frames} frames");
+        }
+        assert!(greatest.iter().all(|p| *p > 0.0), "code {code}");
+        bank.start(1).unwrap();
+        assert_eq!(peaks(&bank), [greatest[0], 0.0, greatest[2], 0.0].map(f32::to_bits), "code {code}, a start");
+        assert_eq!([bank.peak(2, 0), bank.peak(0, 2), bank.peak(usize::MAX, 0), bank.peak(0, usize::MAX)], [None; 4]);
+    }
+}
+
+/// The peak is of the sample after level: a NaN leaves it, an infinite one of either sign makes it infinite. A forged peak goes by the same rule. At level
+/// 0 a negative input gives a sample of -0.
+#[test]
+fn peaks_from_any_before() {
+    let s = Setup::new(Structure::PoleZero, 48000.0, 1, 1); // passes its input
+    let (mut t, mut r, mut d) = lists(&s);
+    open(&s, &mut t, &mut r, &mut d).unwrap();
+    let (nan, inf, signalling) = (f32::NAN, f32::INFINITY, f32::from_bits(0xff80_0001));
+    for (before, level, input, after) in [(0.0, 2.0, 0.25, 0.5), (0.0, 2.0, -0.25, 0.5), (0.5, 2.0, 0.125, 0.5), (0.5, 2.0, nan, 0.5), (0.5, 2.0, 3e38, inf),
+        (0.5, 2.0, -3e38, inf), (inf, 2.0, nan, inf), (inf, 2.0, 1.0, inf), (7.0, 2.0, 0.25, 7.0), (nan, 2.0, 0.25, 0.5), (signalling, 2.0, 0.25, 0.5),
+        (nan, 2.0, nan, nan), (nan, 0.0, -1.0, 0.0), (-0.0, 2.0, 0.0, 0.0), (-0.0, 2.0, nan, -0.0), (-0.0, 0.0, -1.0, 0.0), (-7.0, 2.0, -0.25, 0.5),
+        (-7.0, 0.0, -1.0, 0.0), (-inf, 2.0, 0.25, 0.5)] {
+        set(&s, 0, &mut t, 0, &VoiceParams { level, ..VoiceParams::default() }).unwrap();
+        start(&s, 0, &t, &mut r, &mut d, 0).unwrap();
+        r[PEAK] = before;
+        block(&s, 0, &t, &mut r, &mut d, Block { frames: 1, pitch: &[69.0], steering: None }, &mut [input], &mut [0]).unwrap();
+        assert!(r[PEAK].to_bits() == after.to_bits() || r[PEAK].is_nan() && after.is_nan(), "{before}, {input} at level {level}: {}", r[PEAK]);
+    }
+}
+
+/// With no filtered sound in the mix the sample is the input at its level.
+#[test]
+fn a_peak_is_after_the_mix() {
+    for code in 1..=12 {
+        let mut bank = Bank::open(Setup { code, ..setup() }).unwrap();
+        bank.set(0, &VoiceParams { mix: 0.0, level: 0.25, ..VoiceParams::default() }).unwrap();
+        bank.start(0).unwrap();
+        bank.block(Block { frames: 4, pitch: &[69.0; 4], steering: None }, &mut [0.5, -1.0, 0.75, 0.0]).unwrap();
+        assert_eq!(bank.peak(0, 0).map(f32::to_bits), Some(0.25f32.to_bits()), "code {code}");
+    }
+}
+
+/// A voice's peaks alone are those in company, wherever its frames are cut into blocks.
+#[test]
+fn a_lone_voice_has_its_peaks_in_company() {
+    let s = Setup::new(Structure::Comb2, 8000.0, 2, 2);
+    let p = VoiceParams { resonance: 0.9, character: 0.3, stereo_offset: 5.0, ..VoiceParams::default() };
+    let (mut company, mut alone) = (Bank::open(s).unwrap(), Bank::open(Setup { voices: 1, ..s }).unwrap());
+    for (bank, voice) in [(&mut company, 1), (&mut alone, 0)] {
+        bank.set(voice, &p).unwrap();
+        bank.start(voice).unwrap();
+    }
+    let audio = noise(4 * 200);
+    let mut own: Vec<f32> = audio.iter().skip(1).step_by(2).copied().collect();
+    company.block(Block { frames: 200, pitch: &[80.0; 400], steering: None }, &mut audio.clone()).unwrap();
+    for (frames, part) in [(70, 0..140), (1, 140..142), (129, 142..400)] {
+        alone.block(Block { frames, pitch: &vec![80.0; frames], steering: None }, &mut own[part]).unwrap();
+    }
+    let bits = |p: Option<f32>| p.unwrap().to_bits();
+    assert_eq!([0, 1].map(|c| bits(alone.peak(c, 0))), [0, 1].map(|c| bits(company.peak(c, 1))));
+    assert_ne!(bits(alone.peak(0, 0)), bits(alone.peak(1, 0)));
 }
 
 #[test]

@@ -104,7 +104,7 @@ fn the_blocks_of_document_02() {
     setup.push((-1.5f32).to_bits());
     let mut file = [written(1, 0, 0, &setup[..126]), written(1, 0, 1, &setup[126..])].concat();
     bank.targets.chunks(10).enumerate().for_each(|(voice, t)| file.extend(written(2, voice, 0, &bits(t))));
-    bank.records.chunks(30).enumerate().for_each(|(slot, r)| file.extend(written(3, slot, 0, &bits(r))));
+    bank.records.chunks(RECORD).enumerate().for_each(|(slot, r)| file.extend(written(3, slot, 0, &bits(r))));
     for (slot, ring) in bank.delay.chunks(1024).enumerate() {
         ring.chunks(126).enumerate().for_each(|(part, cells)| file.extend(written(4, slot, part, &bits(cells))));
     }
@@ -150,7 +150,7 @@ fn any_order() {
 #[test]
 fn unused_words_are_ignored() {
     let bank = lent(1, 1);
-    for (i, used) in [(1, 44), (2, 10), (3, 30), (12, 1024 - 8 * 126)] {
+    for (i, used) in [(1, 44), (2, 10), (3, RECORD), (12, 1024 - 8 * 126)] {
         let mut file = bank.parked();
         assert!((used..126).all(|k| word(block(&mut file, i), k + 1) == 0));
         for k in [used, 125] {
@@ -168,14 +168,14 @@ fn numbers_of_every_kind() {
     for (bits, parked) in kept.map(|b| (b, b)).into_iter().chain(nans.map(|b| (b, 0x7fc0_0000))) {
         let mut bank = lent(1, 1);
         let x = f32::from_bits(bits);
-        (bank.targets[9], bank.records[29], bank.delay[1023], bank.setup.table.sections[116], bank.setup.table.gain) = (x, x, x, x, x);
+        (bank.targets[9], bank.records[PEAK], bank.delay[1023], bank.setup.table.sections[116], bank.setup.table.gain) = (x, x, x, x, x);
         let mut file = bank.parked();
-        let places = [(0, 126), (1, 44), (2, 10), (3, 30), (12, 1024 - 8 * 126)];
+        let places = [(0, 126), (1, 44), (2, 10), (3, RECORD), (12, 1024 - 8 * 126)];
         assert_eq!(places.map(|(i, k)| word(block(&mut file, i), k)), [parked; 5]);
         places.iter().for_each(|(i, k)| put(block(&mut file, *i), *k, bits));
         let mut restored = bank.blank();
         let (setup, _) = restored.restore(&file).unwrap();
-        for y in [restored.targets[9], restored.records[29], restored.delay[1023], setup.table.sections[116], setup.table.gain] {
+        for y in [restored.targets[9], restored.records[PEAK], restored.delay[1023], setup.table.sections[116], setup.table.gain] {
             assert!(if x.is_nan() { y.is_nan() } else { y.to_bits() == bits }, "{bits:08x}");
         }
     }
@@ -316,6 +316,21 @@ fn play(bank: &mut Bank, frames: usize) -> Vec<u32> {
 
 fn bits(bank: &Bank) -> Vec<u32> {
     [bank.targets(), bank.records(), bank.delay()].concat().iter().map(|x| x.to_bits()).collect()
+}
+
+/// A file parked before a record had its peak holds 0 there: the bank comes back with every peak 0, all else as it was.
+#[test]
+fn files_parked_earlier() {
+    let bank = sounding(4);
+    let mut file = bank.park();
+    (4..8).for_each(|i| put(block(&mut file, i), RECORD, 0));
+    let restored = Bank::restore(&file).unwrap();
+    for (slot, (channel, voice)) in [(0, 0), (0, 1), (1, 0), (1, 1)].into_iter().enumerate() {
+        assert_eq!(restored.peak(channel, voice).map(f32::to_bits), Some(0));
+        assert!(bank.peak(channel, voice) > Some(0.0));
+        assert!(restored.records()[RECORD * slot..][..PEAK] == bank.records()[RECORD * slot..][..PEAK], "slot {slot}");
+    }
+    assert!(restored.targets() == bank.targets() && restored.delay() == bank.delay() && restored.cursor() == bank.cursor());
 }
 
 /// After a restore a bank plays on as it would have, to the bit.

@@ -8,6 +8,7 @@ ghost use Rattle.checks.specs.Setup.{soloOf, engine};
 ghost use Rattle.checks.specs.Checks.{checkOf, bankOf, blockFrom, IsOpenVerdict, IsVerdict};
 use filter::VoiceParams;
 use pole_zero::Table;
+use voices::RECORD_WIDTH;
 
 // What a bank is opened with, and every later call is given again.
 pub struct Setup {
@@ -83,7 +84,7 @@ pub fn open_check(setup: Setup, targets: &[f32], records: &[f32], delay: &[f32])
     if targets.len() != setup.voices * 10 {
         return Verdict::Refused(6);
     }
-    if records.len() != slots * 30 {
+    if records.len() != slots * RECORD_WIDTH {
         return Verdict::Refused(6);
     }
     if delay.len() != slots * lines::ring_len(setup.rate) {

@@ -3,6 +3,7 @@ ghost use mathlib.Core.Path.{_≡_};
 ghost use lib.ListN.{length};
 ghost use Rattle.files.specs.Image.{imageFile};
 ghost use Rattle.files.specs.Asks.{imageOf, Room, Ready, Restored};
+use voices::RECORD_WIDTH;
 
 // Writes the whole file. `words` is room for the content of one block.
 pub fn park_file(
@@ -25,7 +26,7 @@ pub fn park_file(
     blocks::put_block(out, 0, blocks::head_of(1, 0, 0), &setup[0..126]);
     blocks::put_block(out, 1, blocks::head_of(1, 0, 1), &setup[126..170]);
     rows::put_rows(out, 2, 2, voices, 10, 1, targets, words);
-    rows::put_rows(out, 2 + voices, 3, slots, 30, 1, records, words);
+    rows::put_rows(out, 2 + voices, 3, slots, RECORD_WIDTH, 1, records, words);
     rows::put_rows(out, 2 + voices + slots, 4, slots, len, parts, delay, words);
 }
 
@@ -45,6 +46,6 @@ pub fn restore_lists(
     ensures { λ _. ⌜ Restored voices slots len (now (file .entry)) (now (targets .exit)) (now (records .exit)) (now (delay .exit)) ⌝ }
 {
     rows::get_rows(file, pos, 2, voices, 10, 1, targets);
-    rows::get_rows(file, pos, 2 + voices, slots, 30, 1, records);
+    rows::get_rows(file, pos, 2 + voices, slots, RECORD_WIDTH, 1, records);
     rows::get_rows(file, pos, 2 + voices + slots, slots, len, parts, delay);
 }

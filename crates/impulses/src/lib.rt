@@ -13,6 +13,7 @@ ghost use Rattle.impulses.specs.Impulse.{renderedOf, responseOf, answerT
 use checks::Setup;
 use text::Number;
 use text::Span;
+use voices::RECORD_WIDTH;
 
 // What reading a decimal of 1 to 9 digits answers.
 pub enum Decimal {
@@ -203,10 +204,10 @@ fn silent_targets() -> [f32; 10]
     [0.0; 10]
 }
 
-fn silent_record() -> [f32; 30]
-    ensures { λ r. ⌜ (r ≡ silence recordWidth) × (length r ≡ 30) ⌝ }
+fn silent_record() -> [f32; RECORD_WIDTH]
+    ensures { λ r. ⌜ (r ≡ silence recordWidth) × (length r ≡ recordWidth) ⌝ }
 {
-    [0.0; 30]
+    [0.0; RECORD_WIDTH]
 }
 
 fn silent_cells() -> [f32; 16384]

@@ -4,7 +4,7 @@ ghost use Rattle.lane.specs.Floats.{fma};
 ghost use Rattle.lane.specs.Lane.{isMinusZero, maxOf, minOf, clampOf, exp2Of, pow10Of, expOf, tanOf, softClip, saturationGain};
 
 // Whether x is -0, by its bits.
-fn is_minus_zero(x: f32) -> bool
+pub fn is_minus_zero(x: f32) -> bool
     ensures { λ r. ⌜ r ≡ isMinusZero x ⌝ }
 {
     if x != x {

@@ -2,31 +2,22 @@
 -- What the functions of a tick promise each other. Definitions only. Assumes nothing.
 use mathlib.Core.Path.{_≡_}
 use Prim.Native.Nat.{ℕ}
-use mathlib.Core.Bool.{Bool, cond}
-use mathlib.Core.Option.{none, some}
-use mathlib.Core.List.{List}
+use mathlib.Core.Option.{some}
+use mathlib.Core.List.{List, [], _∷_, _++_}
+use lib.ListN.{length}
 use lib.Ieee.{Float}
-use Rattle.lane.specs.Floats.{_⊕_}
 use Rattle.lines.specs.declared.Ring.{Ring}
 use Rattle.lines.specs.Ring.{cellsAt, withCells}
-use Rattle.extended.specs.Extended.{unitOr0}
 use Rattle.pole_zero.specs.declared.Table.{Table}
 use Rattle.kernels.specs.Kernels.{Kernel}
 use Rattle.kernels.specs.Contracts.{Kept, KeptSections}
-use Rattle.voices.specs.Calls.{Tick, Steering}
+use Rattle.voices.specs.Calls.{targetsWidth, statesWidth, Tick}
 use Rattle.run.specs.declared.Controls.{Controls}
 use Rattle.run.specs.declared.FrameInput.{FrameInput}
 use Rattle.run.specs.declared.Sample.{Sample}
 use Rattle.run.specs.declared.Structure.{Structure}
 use Rattle.run.specs.Run.{kernelTick, overTick, tickWith}
-
--- x and y, or that the frame is unsteered
-abbrev pub steeringOf : (steered : Bool) (x y : Float) → Steering
-steeringOf steered x y = cond steered (some (x, y)) none
-
--- a morph number, steered by an offset or not, held to 0 .. 1
-unfoldable pub steerOf : (morph : Float) (steered : Bool) (v : Float) → Float
-steerOf morph steered v = unitOr0 (cond steered (morph ⊕ v) morph)
+use Rattle.run.specs.Running.{settledOf}
 
 -- the setup's table
 abbrev pub tableFor : Structure → (sections : List Float) → Table
@@ -47,11 +38,24 @@ kernelOn m sections at params state controls input delay =
 abbrev pub overOn : Structure → (sections params state : List Float) → Controls → ℕ
 overOn m sections params state controls = overTick (m .code) (m .k) (tableFor m sections) params state controls
 
--- the tick on the ring `at` of a delay list
+-- the tick on the ring `at` of a delay list; an unsteered frame is steered by zeros (Unsteered)
 abbrev pub tickOn : Structure → (sections : List Float) → Ring → FrameInput → (targets rec delay : List Float) → Tick
 tickOn m sections at f targets rec delay =
     tickWith (m .code) (m .k) (tableFor m sections) (at .len) (f .sign) targets (at .cursor) (f .pitch .0) (f .input)
-    (steeringOf (f .steered) (f .x) (f .y)) rec (cellsAt delay at)
+    (some (f .x, f .y)) rec (cellsAt delay at)
+
+-- a slot's record by its parts: the ten smoothed numbers, the twenty states and the peak
+abbrev pub recordOf : (params state : List Float) (peak : Float) → List Float
+recordOf params state peak = params ++ state ++ peak ∷ []
+
+-- the same while a block runs that began with the peak b: p runs in its place
+abbrev pub heldRecord : (params state : List Float) (b p : Float) → List Float
+heldRecord params state b p = recordOf params state (settledOf b p)
+
+-- its parts are as long as they should be
+pub record Widths (ps ss : List Float) : Type 0 where
+  pub params : length ps ≡ targetsWidth
+  pub state : length ss ≡ statesWidth
 
 -- a tick t leaves its sample and what it judged, its record, and its slot's ring in the lent delay list, every other cell as it was
 pub record TickLeaves (t : Tick) (before : List Float) (at : Ring) (s : Sample) (rec delay : List Float) : Type 0 where

@@ -1,18 +1,19 @@
 -- For the proofs: nothing here must be believed.
--- A tick keeps the record's thirty numbers and the ring's length, and judges at most eight ratios, whatever the structure. Assumes nothing.
+-- A tick keeps the record's 31 numbers and the ring's length, and judges at most eight ratios, whatever the structure. Assumes nothing.
 use mathlib.Core.Path.{_≡_, refl, _∙_}
 use Prim.Native.Nat.{ℕ, _≤_}
 use mathlib.Core.Bool.{Bool, true, false, cond}
 use mathlib.Core.List.{List}
 use native.Mathlib.Omega.{arith}
 use lib.ListN.{length, take, drop, length-set, length-append, length-drop}
+use lib.Seq.{length-take-le}
 use lib.Ieee.{Float}
 use Rattle.lane.specs.Floats.{_‼_}
 use Rattle.filter.specs.Voice.{CHARACTER}
 use Rattle.extended.specs.Extended.{smoothMark}
 use Rattle.pole_zero.specs.declared.Table.{Table}
 use Rattle.kernels.specs.Laws.{SameLengths, kernel-lengths, over-most}
-use Rattle.voices.specs.Calls.{targetsWidth, recordWidth, Steering}
+use Rattle.voices.specs.Calls.{targetsWidth, statesWidth, recordWidth, Steering}
 use Rattle.run.specs.declared.Constants.{Constants}
 use Rattle.run.specs.declared.Controls.{Controls}
 use Rattle.run.specs.Run.{smoothOf, lagState, stateAfter, kernelTick, overTick, controlsOf, tickWith}
@@ -31,29 +32,37 @@ unfolding smoothOf
 smooth-length alpha targets params = refl
 
 module _ (code : ℕ) (k : Constants) (table : Table) (len cursor : ℕ) (params state : List Float) (at : Controls) (input : Float) (ring : List Float) where
-  kernel-tick-kept : SameLengths state ring (kernelTick code k table len cursor params state at input ring)
+  pub kernel-tick-kept : SameLengths state ring (kernelTick code k table len cursor params state at input ring)
   unfolding kernelTick
   kernel-tick-kept =
       let kept = kernel-lengths code table len cursor _ _ (stateAfter code (k .«smooth_samples») (params ‼ CHARACTER) state at) ring _ in
       record { states = kept .states ∙ lag-length code (k .«smooth_samples») (params ‼ CHARACTER) state at; cells = kept .cells }
+
+pub few-over : (code : ℕ) (k : Constants) (table : Table) (params state : List Float) (at : Controls) → overTick code k table params state at ≤ 8
+unfolding overTick
+few-over code k table params state at = over-most code table _ _
 
 module _ (code : ℕ) (k : Constants) (table : Table) (len : ℕ) (sign : Float) (targets : List Float) (cursor : ℕ) (pitch input : Float)
     (st : Steering) (rec ring : List Float) where
   abbrev params : List Float
   params = smoothOf (k .alpha) targets (take targetsWidth rec)
 
-  kept : SameLengths (drop targetsWidth rec) ring
-      (kernelTick code k table len cursor params (drop targetsWidth rec) (controlsOf params sign pitch st) input ring)
-  kept = kernel-tick-kept code k table len cursor params (drop targetsWidth rec) (controlsOf params sign pitch st) input ring
+  abbrev state : List Float
+  state = take statesWidth (drop targetsWidth rec)
+
+  kept : SameLengths state ring (kernelTick code k table len cursor params state (controlsOf params sign pitch st) input ring)
+  kept = kernel-tick-kept code k table len cursor params state (controlsOf params sign pitch st) input ring
 
   pub rec-length : length rec ≡ recordWidth → length (tickWith code k table len sign targets cursor pitch input st rec ring .rec) ≡ recordWidth
   unfolding tickWith
-  rec-length h = length-append params _ ∙ omega (arith, smooth-length (k .alpha) targets (take targetsWidth rec), kept .states, length-drop targetsWidth rec)
+  rec-length h =
+      let states : length state ≡ statesWidth = length-take-le statesWidth (drop targetsWidth rec) (simp length-drop (omega arith)) in
+      simp length-append (omega (arith, smooth-length (k .alpha) targets (take targetsWidth rec), kept .states, states))
 
   pub ring-length : length ring ≡ len → length (tickWith code k table len sign targets cursor pitch input st rec ring .ring) ≡ len
   unfolding tickWith
   ring-length h = kept .cells ∙ h
 
   pub tick-judges : tickWith code k table len sign targets cursor pitch input st rec ring .over ≤ 8
-  unfolding tickWith overTick
-  tick-judges = over-most code table _ _
+  unfolding tickWith
+  tick-judges = few-over code k table params state (controlsOf params sign pitch st)

@@ -1,6 +1,6 @@
--- One frame of one slot: the body of Run::go's frame loop (document 01, One block goes through, points 1 to 5; document 02, C-11).
+-- One frame of one slot: the body of Run::go's frame loop (document 01, One block goes through, points 1 to 5; document 02, C-11, C-15).
 -- Definitions only. Assumes nothing.
-use Prim.Native.Nat.{ℕ}
+use Prim.Native.Nat.{ℕ, _+_}
 use mathlib.Core.Bool.{Bool, cond}
 use mathlib.Core.Option.{none, some}
 use mathlib.Core.List.{List, [], _∷_, _++_}
@@ -10,13 +10,13 @@ use lib.Seq.{sets}
 use lib.Ieee.{Float, neg}
 use Rattle.parts.specs.Parts.{tab}
 use Rattle.lane.specs.Floats.{_⊕_, _⊖_, _⊗_, _⊘_, _‼_, fma, decimal, whole, zero, one}
-use Rattle.lane.specs.Lane.{expOf, pow10Of, softClip}
+use Rattle.lane.specs.Lane.{maxOf, expOf, pow10Of, softClip}
 use Rattle.filter.specs.Voice.{RES, DRIVE, «DRIVE_GAIN», «INV_KNEE», OFFSET, MIX, LEVEL, CHARACTER, «MORPH_X», «MORPH_Y»}
 use Rattle.extended.specs.declared.Settings.{Settings}
-use Rattle.extended.specs.Extended.{unitOr0, smoothMark}
+use Rattle.extended.specs.Extended.{unitOr0, absOf, smoothMark}
 use Rattle.pole_zero.specs.declared.Table.{Table}
 use Rattle.kernels.specs.Kernels.{Kernel, kernelOf, overCount}
-use Rattle.voices.specs.Calls.{Tick, Steering, targetsWidth}
+use Rattle.voices.specs.Calls.{Tick, Steering, targetsWidth, statesWidth}
 use Rattle.run.specs.declared.Constants.{Constants}
 use Rattle.run.specs.declared.Controls.{Controls}
 
@@ -134,6 +134,13 @@ settingsOf k params at =
 unfoldable pub mixOf : (params : List Float) (input wet : Float) → Float
 mixOf params input wet = fma wet (params ‼ MIX) (input ⊗ (one ⊖ params ‼ MIX)) ⊗ params ‼ LEVEL
 
+-- C-15: where the record has the slot's peak, and the peak after a frame whose sample, after mix and level, is `out`
+abbrev pub PEAK : ℕ
+PEAK = targetsWidth + statesWidth
+
+unfoldable pub peakOf : (peak out : Float) → Float
+peakOf peak out = maxOf peak (absOf out)
+
 -- ---- the frame
 
 -- lag, drive and kernel, on the smoothed numbers and the states apart; `len` is the ring's length
@@ -152,15 +159,17 @@ overTick code k table params state at =
     let after = controlsAfter code (k .«smooth_samples») (params ‼ CHARACTER) state at in
     overCount code table (record { 0 = after .pitch }) (settingsOf k params after)
 
--- points 1 to 5. The record is the ten smoothed numbers and then the twenty states
+-- points 1 to 5. The record is the ten smoothed numbers, the twenty states and the peak
 unfoldable pub tickWith : (code : ℕ) → Constants → Table → (len : ℕ) (sign : Float) (targets : List Float) (cursor : ℕ) (pitch input : Float)
     → Steering → (rec ring : List Float) → Tick
 tickWith code k table len sign targets cursor pitch input st rec ring =
     let params = smoothOf (k .alpha) targets (take targetsWidth rec) in
-    let t = kernelTick code k table len cursor params (drop targetsWidth rec) (controlsOf params sign pitch st) input ring in
+    let state = take statesWidth (drop targetsWidth rec) in
+    let t = kernelTick code k table len cursor params state (controlsOf params sign pitch st) input ring in
+    let out = mixOf params input (t .out) in
     record {
-      rec = params ++ t .state;
+      rec = params ++ t .state ++ peakOf (rec ‼ PEAK) out ∷ [];
       ring = t .ring;
-      out = mixOf params input (t .out);
-      over = overTick code k table params (drop targetsWidth rec) (controlsOf params sign pitch st);
+      out = out;
+      over = overTick code k table params state (controlsOf params sign pitch st);
     }

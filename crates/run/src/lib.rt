@@ -1,13 +1,18 @@
 // One frame of one slot: the body of the frame loop of Run::go for the scalar lane, and the numbers worked out once a block.
 ghost use mathlib.Core.Path.{_≡_};
-ghost use mathlib.Core.List.{_++_};
-ghost use lib.ListN.{length};
+ghost use Prim.Native.Nat.{_≤_};
+ghost use lib.Ieee.{Float};
+ghost use Rattle.lane.specs.Floats.{_⊕_};
+ghost use Rattle.extended.specs.Extended.{unitOr0};
 ghost use Rattle.lines.specs.Ring.{StandsIn};
 ghost use Rattle.kernels.specs.Contracts.{KernelLeaves};
-ghost use Rattle.voices.specs.Calls.{targetsWidth};
 ghost use Rattle.run.specs.Run.{cleanDrive, constantsOf, signOf, smoothOf, lagShare, lagged, lagState, controlsAfter, stateAfter};
 ghost use Rattle.run.specs.Run.{drivenOf, settingsOf, mixOf};
-ghost use Rattle.run.specs.Contracts.{steerOf, Keeps, kernelOn, overOn, tickOn, TickLeaves};
+ghost use Rattle.run.specs.Running.{Runs};
+ghost use Rattle.run.specs.Contracts.{Keeps, kernelOn, overOn, tickOn, TickLeaves, Widths, heldRecord};
+
+pub mod peak;
+
 use extended::Settings;
 use filter::Pitch;
 use filter::Ratio;
@@ -70,12 +75,12 @@ pub struct Structure {
     pub k: Constants,
 }
 
-// What a frame brings to a slot: the channel's sign, the voice's pitch, the input sample, and X and Y where it is steered.
+// What a frame brings to a slot: the channel's sign, the voice's pitch, the input sample, and what X and Y are steered by, zeros where it is
+// unsteered.
 pub struct FrameInput {
     pub sign: f32,
     pub pitch: Pitch,
     pub input: f32,
-    pub steered: bool,
     pub x: f32,
     pub y: f32,
 }
@@ -145,13 +150,10 @@ pub struct Controls {
     pub y: f32,
 }
 
-fn steer(morph: f32, steered: bool, v: f32) -> f32
-    ensures { λ r. ⌜ r ≡ steerOf morph steered v ⌝ }
+fn steer(morph: f32, v: f32) -> f32
+    ensures { λ r. ⌜ r ≡ unitOr0 (morph ⊕ v) ⌝ }
 {
-    if steered {
-        return extended::unit(morph + v);
-    }
-    extended::unit(morph)
+    extended::unit(morph + v)
 }
 
 fn lag_share(smooth_samples: f32, character: f32, started: f32) -> f32
@@ -287,7 +289,7 @@ fn kernel_tick(
     }
 }
 
-// One frame of one slot. `tuning`, `blended` and `over` hold the numbers kept from frame to frame.
+// One frame of one slot. `tuning`, `blended` and `over` hold the numbers kept from frame to frame, `peak` what runs in the peak's place.
 pub fn tick(
     m: Structure,
     sections: &[f32; 160],
@@ -297,15 +299,17 @@ pub fn tick(
     targets: &[f32; 10],
     params: &mut [f32; 10],
     state: &mut [f32; 20],
+    peak: &mut f32,
     delay: &mut [f32],
     at: Ring,
     f: FrameInput,
 ) -> Sample
-    requires { ⌜ (length (now params) ≡ targetsWidth) × (StandsIn (now delay) at) × (Keeps m (now sections) (now tuning) (now blended) (now over)) ⌝ }
-    ensures { λ r. ⌜ (TickLeaves
-        (tickOn m (now (sections .entry)) at f (now (targets .entry)) (now (params .entry) ++ now (state .entry)) (now (delay .entry)))
-        (now (delay .entry)) at r (now (params .exit) ++ now (state .exit)) (now (delay .exit)))
-        × (length (now (params .exit)) ≡ targetsWidth)
+    requires { ⌜ (Widths (now params) (now state)) × (StandsIn (now delay) at) × (Keeps m (now sections) (now tuning) (now blended) (now over)) ⌝ }
+    ensures { λ r. ⌜ ((b : Float) → Runs b (now (peak .entry)) → Runs b (now (peak .exit)) × (TickLeaves
+        (tickOn m (now (sections .entry)) at f (now (targets .entry)) (heldRecord (now (params .entry)) (now (state .entry)) b (now (peak .entry)))
+        (now (delay .entry)))
+        (now (delay .entry)) at r (heldRecord (now (params .exit)) (now (state .exit)) b (now (peak .exit))) (now (delay .exit))))
+        × (r .over ≤ 8) × (Widths (now (params .exit)) (now (state .exit)))
         × (Keeps m (now (sections .entry)) (now (tuning .exit)) (now (blended .exit)) (now (over .exit))) ⌝ }
 {
     let k = m.k;
@@ -313,8 +317,8 @@ pub fn tick(
     smooth(params, targets, k.alpha);
     let controls = Controls {
         pitch: params[OFFSET] * f.sign + pitch.0,
-        x: steer(params[MORPH_X], f.steered, f.x),
-        y: steer(params[MORPH_Y], f.steered, f.y),
+        x: steer(params[MORPH_X], f.x),
+        y: steer(params[MORPH_Y], f.y),
     };
     let wet = kernel_tick(
         m,
@@ -329,8 +333,10 @@ pub fn tick(
         controls,
         f.input,
     );
+    let out = mix(params, f.input, wet.out);
+    *peak = peak::raised(*peak, out);
     Sample {
-        out: mix(params, f.input, wet.out),
+        out: out,
         over: wet.over,
     }
 }

@@ -1,7 +1,7 @@
 // Replays lists of calls on the proved bank: copies each call and writes its answer anew, so that the output is the input where
 // every answer is right, bit for bit. The answers of the input, lines that start with `=`, `o`, `h`, `c`, `t`, `r` or `d`, are left
 // out; a line that cannot be read gives `?`.
-// Limits: targets 160 numbers, records 960, delay 65,536, each lent with one more at most; pitch, x and y 8,192 numbers each,
+// Limits: targets 160 numbers, records 992, delay 65,536, each lent with one more at most; pitch, x and y 8,192 numbers each,
 // audio 16,384, counts 1,024; the input 1,048,576 bytes.
 ghost use Prim.Native.Nat.{_<_, _≤_};
 ghost use lib.ListN.{length};
@@ -384,7 +384,7 @@ fn lengths_at(s: &[u8], at: usize) -> Lengths {
 
 fn are_lengths(s: &[u8], at: usize) -> bool {
     let l = lengths_at(s, at);
-    words::are_decimals(s, at, 0, 3) & (l.targets <= 161) & (l.records <= 961) & (l.delay <= 65537)
+    words::are_decimals(s, at, 0, 3) & (l.targets <= 161) & (l.records <= 993) & (l.delay <= 65537)
 }
 
 fn read_table(s: &[u8], st: State) -> StateRead {
@@ -510,7 +510,7 @@ fn poke_list(
     s: &[u8],
     own: Lengths,
     targets: &mut [f32; 161],
-    records: &mut [f32; 961],
+    records: &mut [f32; 993],
     delay: &mut [f32; 65537],
 ) -> ListRead {
     let list = words::name_at(b"t r d", 3, s, words::start(s, 0, 1));
@@ -531,7 +531,7 @@ fn read_numbers(
     s: &[u8],
     own: Lengths,
     targets: &mut [f32; 161],
-    records: &mut [f32; 961],
+    records: &mut [f32; 993],
     delay: &mut [f32; 65537],
     pitch: &mut [f32; 8192],
     x: &mut [f32; 8192],
@@ -854,7 +854,7 @@ fn respond(
     s: &[u8],
     st: State,
     targets: &mut [f32; 161],
-    records: &mut [f32; 961],
+    records: &mut [f32; 993],
     delay: &mut [f32; 65537],
     pitch: &[f32; 8192],
     x: &[f32; 8192],
@@ -897,7 +897,7 @@ fn command(
     s: &[u8],
     st: State,
     targets: &mut [f32; 161],
-    records: &mut [f32; 961],
+    records: &mut [f32; 993],
     delay: &mut [f32; 65537],
     pitch: &mut [f32; 8192],
     x: &mut [f32; 8192],
@@ -967,7 +967,7 @@ fn line(
     s: &[u8],
     st: State,
     targets: &mut [f32; 161],
-    records: &mut [f32; 961],
+    records: &mut [f32; 993],
     delay: &mut [f32; 65537],
     pitch: &mut [f32; 8192],
     x: &mut [f32; 8192],
@@ -1011,7 +1011,7 @@ fn replay(
     s: &[u8],
     n: usize,
     targets: &mut [f32; 161],
-    records: &mut [f32; 961],
+    records: &mut [f32; 993],
     delay: &mut [f32; 65537],
     pitch: &mut [f32; 8192],
     x: &mut [f32; 8192],
@@ -1049,7 +1049,7 @@ fn replay_input(
     input: &[u8; 1048576],
     n: usize,
     targets: &mut [f32; 161],
-    records: &mut [f32; 961],
+    records: &mut [f32; 993],
     delay: &mut [f32; 65537],
     pitch: &mut [f32; 8192],
     x: &mut [f32; 8192],
@@ -1063,7 +1063,7 @@ fn replay_input(
 fn main() {
     let mut input = [0u8; 1048576];
     let mut targets = [0f32; 161];
-    let mut records = [0f32; 961];
+    let mut records = [0f32; 993];
     let mut delay = [0f32; 65537];
     let mut pitch = [0f32; 8192];
     let mut x = [0f32; 8192];

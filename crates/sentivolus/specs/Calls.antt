@@ -15,7 +15,7 @@ use Rattle.parking.specs.Parking.{parkVerdict, writtenBy, setupIn, restoredBy}
 
 -- the interface's version, 10,000 x major + 100 x minor + patch
 abbrev pub version : ℕ
-version = 600
+version = 700
 
 -- a setup from the numbers that a caller in C hands over
 abbrev pub setupOf : (code : ℕ) (rate reference : Float) (voices channels : ℕ) (clean : Bool)

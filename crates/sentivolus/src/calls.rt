@@ -22,7 +22,7 @@ use pole_zero::Table;
 pub extern "C" fn sentivolus_version() -> u32
     ensures { λ r. ⌜ r ≡ version ⌝ }
 {
-    600
+    700
 }
 
 // The default settings of a voice, in the order of VoiceParams.

@@ -4,32 +4,38 @@ use mathlib.Core.Path.{_≡_, refl, sym, ap, _∙_}
 use Prim.Native.Nat.{ℕ, _+_, _*_, _≤_, _<_, zero-le}
 use native.Mathlib.Omega.{arith}
 use native.Mathlib.Numerals.{add-one}
-use mathlib.Core.Bool.{Bool, true, false}
-use mathlib.Core.Option.{some}
+use mathlib.Core.Bool.{Bool, true, false, cond}
+use mathlib.Core.Option.{none, some}
 use mathlib.Core.List.{List}
 use lib.Ieee.{Float}
 use lib.ListN.{length, set, take, drop}
 use Rattle.parts.specs.Parts.{upto, piece, patch}
-use Rattle.lane.specs.Floats.{_‼_}
+use Rattle.lane.specs.Floats.{_‼_, zero}
 use Rattle.lines.specs.declared.Ring.{Ring}
 use Rattle.lines.specs.Lines.{ringLen}
+use Rattle.pole_zero.specs.declared.Table.{Table}
+use Rattle.run.specs.declared.Constants.{Constants}
 use Rattle.run.specs.declared.FrameInput.{FrameInput}
 use Rattle.run.specs.declared.Sample.{Sample}
 use Rattle.run.specs.Run.{tickWith}
-use Rattle.run.specs.Contracts.{steeringOf, tableFor, tickOn, TickLeaves}
+use Rattle.run.specs.Unsteered.{unsteered}
+use Rattle.run.specs.Contracts.{tableFor, tickOn, TickLeaves}
 use Rattle.voices.specs.Calls.{targetsWidth, recordWidth, Tick, Engine, Block, BlockRun, SlotRun}
-use Rattle.voices.specs.Calls.{cursorAfter, steeringAt, tickAt, frameOf, framesOf, slotOf, blockOf}
+use Rattle.voices.specs.Calls.{cursorAfter, tickAt, frameOf, framesOf, slotOf, blockOf}
 use Rattle.slots.specs.declared.Prepared.{Prepared}
 use Rattle.slots.specs.declared.Slot.{Slot}
 use Rattle.slots.specs.Engine.{tickOf}
 use Rattle.slots.specs.Slots.{engineAt, blockOn, blockAt, bankAt, blockRun, Worked, Placed, Buffers, Lists}
 use Rattle.slots.specs.Slots.{frameIn, channelIn, Swept}
 
--- x and y, read where the mark says so
-pub steering-is : (steered : Bool) (px py x y : Float) → (steered ≡ true → px ≡ x) → (steered ≡ true → py ≡ y)
-    → steeringOf steered px py ≡ steeringOf steered x y
-steering-is true px py x y hx hy = λ i. some (hx refl i, hy refl i)
-steering-is false px py x y hx hy = refl
+-- an unsteered frame is steered by zeros
+steering-is : (steered : Bool) (code : ℕ) (k : Constants) (table : Table) (len : ℕ) (sign : Float) (targets : List Float) (cursor : ℕ)
+    (pitch input x y : Float) (rec ring : List Float)
+    → tickWith code k table len sign targets cursor pitch input (some (cond steered x zero, cond steered y zero)) rec ring
+    ≡ tickWith code k table len sign targets cursor pitch input (cond steered (some (x, y)) none) rec ring
+steering-is true code k table len sign targets cursor pitch input x y rec ring = refl
+steering-is false code k table len sign targets cursor pitch input x y rec ring =
+    sym (unsteered code k table len sign targets cursor pitch input rec ring)
 
 module _ (e : Prepared) (sections tg ps xs ys : List Float) (p : Slot) (f : ℕ) (w : SlotRun) (g : Worked e) (h : Placed e p) where
   abbrev E : Engine
@@ -41,7 +47,7 @@ module _ (e : Prepared) (sections tg ps xs ys : List Float) (p : Slot) (f : ℕ)
   -- what a frame brings, read where the code reads it
   abbrev input : (from at : ℕ) (px py : Float) → FrameInput
   input from at px py =
-      record { sign = p .sign; pitch = record { 0 = ps ‼ from }; input = w .audio ‼ at; steered = e .steered; x = px; y = py }
+      record { sign = p .sign; pitch = record { 0 = ps ‼ from }; input = w .audio ‼ at; x = px; y = py }
 
   abbrev ring : (cursor : ℕ) → Ring
   ring cursor = record { len = e .len; cursor = cursor; slot = p .number }
@@ -50,27 +56,31 @@ module _ (e : Prepared) (sections tg ps xs ys : List Float) (p : Slot) (f : ℕ)
       → at ≡ f * (e .channels * e .voices) + (p .channel * e .voices + p .voice)
       → from ≡ f * e .voices + p .voice
       → cur ≡ cursorAfter E (e .cursor) f
-      → steeringOf (e .steered) px py ≡ steeringAt E (e .voices) q f (p .voice)
+      → px ≡ cond (e .steered) (xs ‼ from) zero
+      → py ≡ cond (e .steered) (ys ‼ from) zero
       → tickOn (e .m) sections (ring cur) (input from at px py) tg (w .rec) (w .delay)
       ≡ tickAt E (e .voices) q tg (e .cursor) (p .channel) (p .voice) f (w .audio) (w .rec)
       (piece (ringLen (e .rate)) (p .channel * e .voices + p .voice) (w .delay))
   unfolding tickOf
-  tick-is at from cur px py ha hf hc hs =
-      λ i. tickWith (e .m .code) (g .constants i) (tableFor (e .m) sections) (g .len i) (h .sign i) tg (hc i) (ps ‼ hf i) (w .audio ‼ ha i) (hs i)
+  tick-is at from cur px py ha hf hc hx hy =
+      (λ i. tickWith (e .m .code) (g .constants i) (tableFor (e .m) sections) (g .len i) (h .sign i) tg (hc i) (ps ‼ hf i) (w .audio ‼ ha i)
+      (some ((hx ∙ ap (λ (j : ℕ). cond (e .steered) (xs ‼ j) zero) hf) i, (hy ∙ ap (λ (j : ℕ). cond (e .steered) (ys ‼ j) zero) hf) i))
       (w .rec)
-      (piece (g .len i) (h .number i) (w .delay))
+      (piece (g .len i) (h .number i) (w .delay)))
+      ∙ steering-is (e .steered) _ _ _ _ _ _ _ _ _ _ _ _ _
 
   pub frame-is : (at from cur : ℕ) (px py : Float) (s : Sample) (rec delay : List Float)
       → at ≡ f * e .slots + p .number
       → from ≡ f * e .voices + p .voice
       → cur ≡ cursorAfter E (e .cursor) f
-      → steeringOf (e .steered) px py ≡ steeringAt E (e .voices) q f (p .voice)
+      → px ≡ cond (e .steered) (xs ‼ from) zero
+      → py ≡ cond (e .steered) (ys ‼ from) zero
       → TickLeaves (tickOn (e .m) sections (ring cur) (input from at px py) tg (w .rec) (w .delay)) (w .delay) (ring cur) s rec delay
       → record { rec = rec; delay = delay; audio = set (w .audio) at (s .out); count = w .count + s .over } ≡ frameIn e sections tg ps xs ys p f w
   unfolding frameOf
-  frame-is at from cur px py s rec delay ha hf hc hs l =
+  frame-is at from cur px py s rec delay ha hf hc hx hy l =
       let place : at ≡ f * (e .channels * e .voices) + (p .channel * e .voices + p .voice) = ha ∙ (λ i. f * g .slots i + h .number i) in
-      let t = tick-is at from cur px py place hf hc hs in
+      let t = tick-is at from cur px py place hf hc hx hy in
       λ i. record {
         rec = (l .numbers ∙ ap (λ (x : Tick). x .rec) t) i;
         delay = (l .cells ∙ (λ j. patch (g .len j) (h .number j) (t j .ring) (w .delay))) i;

@@ -4,13 +4,13 @@
 use mathlib.Core.Path.{_≡_}
 use Prim.Native.Nat.{ℕ, _+_, _*_, _≤_, _<_}
 use mathlib.Core.Bool.{true}
-use mathlib.Core.List.{List, [], _++_}
+use mathlib.Core.List.{List, []}
 use lib.Ieee.{Float}
 use lib.ListN.{length}
 use Rattle.parts.specs.Parts.{upto, piece}
 use Rattle.lines.specs.Lines.{ringLen, isLength}
 use Rattle.run.specs.Run.{constantsOf, signOf}
-use Rattle.run.specs.Contracts.{tableFor}
+use Rattle.run.specs.Contracts.{tableFor, heldRecord}
 use Rattle.voices.specs.Calls.{targetsWidth, recordWidth, mostFrames, Engine, Bank, Block, BlockRun, SlotRun, frameOf, slotOf}
 use Rattle.slots.specs.declared.Prepared.{Prepared}
 use Rattle.slots.specs.declared.Slot.{Slot}
@@ -47,9 +47,9 @@ bankAt e tg rs ds = record { targets = tg; records = rs; delay = ds; cursor = e 
 abbrev pub blockRun : (records delay audio : List Float) (counts : List ℕ) → BlockRun
 blockRun rs ds a counts = record { records = rs; delay = ds; audio = a; counts = counts }
 
--- a slot's record in hand, as its ten smoothed and morph numbers and its twenty states, and its count
-abbrev pub slotRun : (params state delay audio : List Float) (count : ℕ) → SlotRun
-slotRun params state ds a count = record { rec = params ++ state; delay = ds; audio = a; count = count }
+-- a slot's record in hand, by its parts, p in the place of the peak b that the block began with; and its count
+abbrev pub slotRun : (params state : List Float) (b p : Float) (delay audio : List Float) (count : ℕ) → SlotRun
+slotRun params state b p ds a count = record { rec = heldRecord params state b p; delay = ds; audio = a; count = count }
 
 -- ---- what the functions ask
 

@@ -1,21 +1,26 @@
 // The slots of a bank's lent lists: one slot started, one slot's frames, and a block through all slots.
 ghost use mathlib.Core.Path.{_≡_};
-ghost use mathlib.Core.List.{_++_};
 ghost use mathlib.Core.Bool.{true, cond};
 ghost use Prim.Native.Nat.{ℕ, _+_, _*_, _%_, _^_, _<_, _≤_};
-ghost use lib.ListN.{length, replicate, take, drop};
+ghost use lib.Ieee.{Float};
+ghost use lib.ListN.{length, replicate, take, drop, set};
 ghost use lib.Seq.{paste};
 ghost use Rattle.parts.specs.Parts.{upto, patch};
 ghost use Rattle.lane.specs.Floats.{_‼_, zero};
 ghost use Rattle.extended.specs.Extended.{linesMark};
-ghost use Rattle.voices.specs.Calls.{targetsWidth, recordWidth, statesWidth, blockOf};
-ghost use Rattle.run.specs.Contracts.{Keeps};
+ghost use Rattle.voices.specs.Calls.{recordWidth, statesWidth, blockOf};
+ghost use Rattle.run.specs.Running.{runningOf, settledOf, Runs};
+ghost use Rattle.run.specs.Contracts.{Keeps, Widths, recordOf};
 ghost use Rattle.slots.specs.Slots.{engineAt, blockOn, bankAt, blockRun, slotRun, Worked, Placed, Buffers, Lists};
 ghost use Rattle.slots.specs.Slots.{frameIn, slotIn, channelIn};
 use filter::Pitch;
 use lines::Ring;
 use run::FrameInput;
 use run::Structure;
+use voices::RECORD_WIDTH;
+
+// Where a record has its slot's peak.
+const PEAK: usize = RECORD_WIDTH - 1;
 
 // The place of a column in a row, of a list of so many rows.
 pub fn place_at(row: usize, width: usize, column: usize, rows: usize, len: usize) -> usize
@@ -66,13 +71,14 @@ fn load_states(list: &[f32], at: usize) -> [f32; 20]
 }
 
 // Stores a slot's record.
-fn store_record(records: &mut [f32], slot: usize, params: &[f32; 10], state: &[f32; 20])
+fn store_record(records: &mut [f32], slot: usize, params: &[f32; 10], state: &[f32; 20], peak: f32)
     requires { ⌜ slot * recordWidth + recordWidth ≤ length (now records) ⌝ }
-    ensures { λ _. ⌜ now (records .exit) ≡ patch recordWidth slot (now (params .entry) ++ now (state .entry)) (now (records .entry)) ⌝ }
+    ensures { λ _. ⌜ now (records .exit) ≡ patch recordWidth slot (recordOf (now (params .entry)) (now (state .entry)) peak) (now (records .entry)) ⌝ }
 {
-    let at = slot * 30;
+    let at = slot * RECORD_WIDTH;
     copy(params, 0, records, at, 10);
     copy(state, 0, records, at + 10, 20);
+    records[at + PEAK] = peak;
 }
 
 // Zeroes a slot's ring.
@@ -88,7 +94,7 @@ fn zero_ring(delay: &mut [f32], slot: usize, len: usize)
     }
 }
 
-// Starts a slot: a voice's targets to its smoothed and morph numbers, states and ring zero.
+// Starts a slot: a voice's targets to its smoothed and morph numbers, states, peak and ring zero.
 pub fn start_slot(
     targets: &[f32; 10],
     records: &mut [f32],
@@ -97,11 +103,12 @@ pub fn start_slot(
     len: usize,
 )
     requires { ⌜ (slot * recordWidth + recordWidth ≤ length (now records)) × (slot * len + len ≤ length (now delay)) ⌝ }
-    ensures { λ _. ⌜ (now (records .exit) ≡ patch recordWidth slot (now (targets .entry) ++ replicate statesWidth zero) (now (records .entry)))
+    ensures { λ _. ⌜ (now (records .exit) ≡ patch recordWidth slot (recordOf (now (targets .entry)) (replicate statesWidth zero) zero)
+        (now (records .entry)))
         × (now (delay .exit) ≡ patch len slot (replicate len zero) (now (delay .entry))) ⌝ }
 {
     let states = [0.0f32; 20];
-    store_record(records, slot, targets, &states);
+    store_record(records, slot, targets, &states, 0.0);
     zero_ring(delay, slot, len);
 }
 
@@ -153,10 +160,10 @@ pub fn cursor_after(code: u32, cursor: usize, frames: usize) -> usize
     cursor
 }
 
-// A steered frame's x or y; an unsteered one has none.
+// A steered frame's x or y; an unsteered one is steered by 0.
 fn steering_at(steered: bool, list: &[f32], i: usize) -> f32
     requires { ⌜ (steered ≡ true → i < length (now list)) ⌝ }
-    ensures { λ r. ⌜ (steered ≡ true → r ≡ now (list .entry) ‼ i) ⌝ }
+    ensures { λ r. ⌜ r ≡ cond steered (now (list .entry) ‼ i) zero ⌝ }
 {
     if steered {
         return list[i];
@@ -165,7 +172,7 @@ fn steering_at(steered: bool, list: &[f32], i: usize) -> f32
 }
 
 // One frame of a slot, with the slot's record in hand: how often it judged a ratio greater than its cap. `tuning`, `blended` and `over`
-// hold the numbers kept from frame to frame.
+// hold the numbers kept from frame to frame, `peak` what runs in the peak's place.
 fn frame(
     e: Prepared,
     sections: &[f32; 160],
@@ -175,6 +182,7 @@ fn frame(
     targets: &[f32; 10],
     params: &mut [f32; 10],
     state: &mut [f32; 20],
+    peak: &mut f32,
     delay: &mut [f32],
     pitch: &[f32],
     x: &[f32],
@@ -184,12 +192,13 @@ fn frame(
     f: usize,
 ) -> u32
     requires { ⌜ (Worked e) × (Placed e p) × (Buffers e (now pitch) (now x) (now y) (now delay) (now audio)) × (f < e .frames)
-        × (length (now params) ≡ targetsWidth) × (Keeps (e .m) (now sections) (now tuning) (now blended) (now over)) ⌝ }
-    ensures { λ r. ⌜ ((k : ℕ) → slotRun (now (params .exit)) (now (state .exit)) (now (delay .exit)) (now (audio .exit)) (k + r)
+        × (Widths (now params) (now state)) × (Keeps (e .m) (now sections) (now tuning) (now blended) (now over)) ⌝ }
+    ensures { λ r. ⌜ ((b : Float) → Runs b (now (peak .entry)) → Runs b (now (peak .exit))
+        × ((k : ℕ) → slotRun (now (params .exit)) (now (state .exit)) b (now (peak .exit)) (now (delay .exit)) (now (audio .exit)) (k + r)
         ≡ frameIn e (now (sections .entry)) (now (targets .entry)) (now (pitch .entry)) (now (x .entry)) (now (y .entry)) p f
-        (slotRun (now (params .entry)) (now (state .entry)) (now (delay .entry)) (now (audio .entry)) k))
+        (slotRun (now (params .entry)) (now (state .entry)) b (now (peak .entry)) (now (delay .entry)) (now (audio .entry)) k)))
         × (r ≤ 8)
-        × (length (now (params .exit)) ≡ targetsWidth)
+        × (Widths (now (params .exit)) (now (state .exit)))
         × (Keeps (e .m) (now (sections .entry)) (now (tuning .exit)) (now (blended .exit)) (now (over .exit))) ⌝ }
 {
     let m = e.m;
@@ -200,15 +209,16 @@ fn frame(
         cursor: cursor_after(m.code, e.cursor, f),
         slot: p.number,
     };
+    let by_x = steering_at(e.steered, x, from);
+    let by_y = steering_at(e.steered, y, from);
     let semitones = pitch[from];
     let input = audio[at];
     let given = FrameInput {
         sign: p.sign,
         pitch: Pitch(semitones),
         input: input,
-        steered: e.steered,
-        x: steering_at(e.steered, x, from),
-        y: steering_at(e.steered, y, from),
+        x: by_x,
+        y: by_y,
     };
     let s = run::tick(
         m,
@@ -219,6 +229,7 @@ fn frame(
         targets,
         params,
         state,
+        peak,
         delay,
         ring,
         given,
@@ -237,6 +248,7 @@ fn run_frames(
     targets: &[f32; 10],
     params: &mut [f32; 10],
     state: &mut [f32; 20],
+    peak: &mut f32,
     delay: &mut [f32],
     pitch: &[f32],
     x: &[f32],
@@ -245,10 +257,11 @@ fn run_frames(
     p: Slot,
 ) -> u32
     requires { ⌜ (Worked e) × (Placed e p) × (Buffers e (now pitch) (now x) (now y) (now delay) (now audio))
-        × (length (now params) ≡ targetsWidth) × (Keeps (e .m) (now sections) (now tuning) (now blended) (now over)) ⌝ }
-    ensures { λ r. ⌜ slotRun (now (params .exit)) (now (state .exit)) (now (delay .exit)) (now (audio .exit)) r
+        × (Widths (now params) (now state)) × (Keeps (e .m) (now sections) (now tuning) (now blended) (now over)) ⌝ }
+    ensures { λ r. ⌜ ((b : Float) → Runs b (now (peak .entry))
+        → slotRun (now (params .exit)) (now (state .exit)) b (now (peak .exit)) (now (delay .exit)) (now (audio .exit)) r
         ≡ upto (frameIn e (now (sections .entry)) (now (targets .entry)) (now (pitch .entry)) (now (x .entry)) (now (y .entry)) p) (e .frames)
-        (slotRun (now (params .entry)) (now (state .entry)) (now (delay .entry)) (now (audio .entry)) 0) ⌝ }
+        (slotRun (now (params .entry)) (now (state .entry)) b (now (peak .entry)) (now (delay .entry)) (now (audio .entry)) 0)) ⌝ }
 {
     let frames = e.frames;
     let mut count: u32 = 0;
@@ -263,6 +276,7 @@ fn run_frames(
             targets,
             params,
             state,
+            peak,
             delay,
             pitch,
             x,
@@ -277,7 +291,22 @@ fn run_frames(
     count
 }
 
-// A block through one slot: its record is loaded, worked frame by frame, and stored; its count is written.
+// Puts what runs in a peak's place where the peak stood, and gives the peak.
+fn hold_peak(records: &mut [f32], at: usize) -> f32
+    requires { ⌜ at < length (now records) ⌝ }
+    ensures { λ r. ⌜ (r ≡ now (records .entry) ‼ at) × (now (records .exit) ≡ set (now (records .entry)) at (runningOf r))
+        × (Runs r (runningOf r)) × (settledOf r (runningOf r) ≡ r) ⌝ }
+{
+    let peak = records[at];
+    if run::peak::is_plain(peak) {
+        return peak;
+    }
+    records[at] = -1.0;
+    peak
+}
+
+// A block through one slot: its record is loaded, worked frame by frame, and stored; its count is written. What runs in the peak's place stands in
+// the list itself: in a register it would take the place of a number that every frame reads.
 fn run_slot(
     e: Prepared,
     sections: &[f32; 160],
@@ -298,10 +327,11 @@ fn run_slot(
         (blockRun (now (records .entry)) (now (delay .entry)) (now (audio .entry)) (now (counts .entry))) ⌝ }
 {
     let from = start_of(p.voice, 10, e.voices, targets.len());
-    let at = start_of(p.number, 30, e.slots, records.len());
+    let at = start_of(p.number, RECORD_WIDTH, e.slots, records.len());
     let goals = load_ten(targets, from);
     let mut params = load_ten(records, at);
     let mut state = load_states(records, at + 10);
+    let peak = hold_peak(records, at + PEAK);
     let mut tuning = [0.0f32 / 0.0; 10];
     let mut blended = [0.0f32 / 0.0; 43];
     let mut over: u32 = 0;
@@ -314,6 +344,7 @@ fn run_slot(
         &goals,
         &mut params,
         &mut state,
+        &mut records[at + PEAK],
         delay,
         pitch,
         x,
@@ -321,7 +352,8 @@ fn run_slot(
         audio,
         p,
     );
-    store_record(records, p.number, &params, &state);
+    let after = run::peak::settled(peak, records[at + PEAK]);
+    store_record(records, p.number, &params, &state, after);
     let slot = p.number;
     counts[slot] = count;
 }

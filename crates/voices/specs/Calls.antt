@@ -1,4 +1,4 @@
--- The bank's calls on flat lists (document 01, 'A bank is opened' and 'One block goes through'; document 02, C-11 and C-12). Definitions only.
+-- The bank's calls on flat lists (document 01, 'A bank is opened' and 'One block goes through'; document 02, C-11, C-12, C-15). Definitions only.
 -- What the layers below make of a setup (its checks, targets_of, one tick) is an `Engine`; polyphony is the number n.
 use mathlib.Core.Path.{_≡_}
 use Prim.Native.Nat.{ℕ, _+_, _*_, _%_, _^_, _<_}
@@ -22,9 +22,9 @@ targetsWidth = 10
 abbrev pub statesWidth : ℕ
 statesWidth = 20
 
--- numbers a slot in records: 8 smoothed and 2 morph, then the states
+-- numbers a slot in records: 8 smoothed and 2 morph, the states, and the peak (C-15)
 abbrev pub recordWidth : ℕ
-recordWidth = targetsWidth + statesWidth
+recordWidth = targetsWidth + statesWidth + 1
 
 -- frames of a block
 abbrev pub leastFrames : ℕ
@@ -163,9 +163,9 @@ module _ (E : Engine) where
   unfoldable pub cursorAfter : ℕ → ℕ → ℕ
   cursorAfter cur k = cond lines ((cur + k) % 2 ^ 64) cur
 
-  -- a slot started: targets as smoothed and morph numbers, states and ring +0
+  -- a slot started: targets as smoothed and morph numbers, states +0, the peak cleared to +0 (C-15)
   abbrev pub startRecord : List Float → List Float
-  startRecord tg = tg ++ replicate statesWidth zero
+  startRecord tg = tg ++ replicate statesWidth zero ++ zero ∷ []
 
   abbrev pub startRing : List Float
   startRing = replicate ringLength zero
@@ -241,7 +241,7 @@ module _ (E : Engine) where
     unfoldable pub setOf : ℕ → S → Bank → Bank
     setOf v s b = record { targets = patch targetsWidth v (targetsOf s) (b .targets); records = b .records; delay = b .delay; cursor = b .cursor }
 
-    -- ---- start copies a voice's targets to its records and zeroes its states and rings, on every channel
+    -- ---- start copies a voice's targets to its records, zeroes its states and rings and clears its peaks, on every channel
 
     unfoldable pub startSlot : (voice channel : ℕ) → Bank → Bank
     startSlot v c b = record {

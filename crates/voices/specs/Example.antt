@@ -29,7 +29,7 @@ exampleEngine = record {
   lines = true;
   setupCheck = λ n. check (ltb n 17) 3;
   restoreVerdict = λ f l. check (eqb (length f) 1) 12;
-  bankIn = λ f. record { targets = replicate 30 nan; records = flat (λ k. replicate 10 nan ++ replicate 20 zero) 6; delay = replicate 24 zero; cursor = 0 };
+  bankIn = λ f. record { targets = replicate 30 nan; records = flat (λ k. replicate 10 nan ++ replicate 21 zero) 6; delay = replicate 24 zero; cursor = 0 };
   OwnSetup = λ n f. Unit {0};
   tick = λ c tg cur p i st r d. record {
     rec = set r 0 (add binary32 (getD r 0 nan) p);

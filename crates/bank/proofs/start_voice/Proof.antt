@@ -1,7 +1,7 @@
 -- `bank::start_voice` meets its contract. The loop's invariant: after c turns the lists are those of c channels started, and as long as
 -- they were. Each turn is `start_slot`'s contract.
 use mathlib.Core.Path.{_≡_, refl, sym, ap, _∙_}
-use mathlib.Core.List.{List, _++_}
+use mathlib.Core.List.{List}
 use Prim.Native.Nat.{ℕ, _+_, _*_, _≤_, _-_, zero-le}
 use native.Mathlib.Omega.{arith}
 use native.Mathlib.Numerals.{add-one}
@@ -10,7 +10,7 @@ use lib.Ieee.{Float}
 use lib.ListN.{length, replicate}
 use Rattle.parts.specs.Parts.{upto, piece, patch}
 use Rattle.parts.specs.Laws.{piece-fits}
-use Rattle.voices.specs.Calls.{targetsWidth, statesWidth, recordWidth, Engine, startSlot, startOf}
+use Rattle.voices.specs.Calls.{targetsWidth, recordWidth, Engine, startRecord, startSlot, startOf}
 use Rattle.lane.specs.Floats.{zero}
 use Rattle.slots.specs.Frame.{targets-piece}
 use Rattle.checks.specs.Setup.{engine}
@@ -31,12 +31,12 @@ abbrev μ-loop : tie.MeasureT-loop
 
 start-is : (E : Engine) (n v c cur : ℕ) (tg rs ds rs' ds' goals : List Float) (s len : ℕ)
     → s ≡ c * n + v → len ≡ E .ringLength → goals ≡ piece targetsWidth v tg
-    → rs' ≡ patch recordWidth s (goals ++ replicate statesWidth zero) rs
+    → rs' ≡ patch recordWidth s (startRecord E goals) rs
     → ds' ≡ patch len s (replicate len zero) ds
     → bankOf tg rs' ds' cur ≡ startSlot E n v c (bankOf tg rs ds cur)
 unfolding startSlot
 start-is E n v c cur tg rs ds rs' ds' goals s len hs hl hg hr hd =
-    λ i. bankOf tg ((hr ∙ (λ j. patch recordWidth (hs j) (hg j ++ replicate statesWidth zero) rs)) i) ((hd ∙ (λ j. patch (hl j) (hs j) (replicate (hl j) zero) ds)) i) cur
+    λ i. bankOf tg ((hr ∙ (λ j. patch recordWidth (hs j) (startRecord E (hg j)) rs)) i) ((hd ∙ (λ j. patch (hl j) (hs j) (replicate (hl j) zero) ds)) i) cur
 
 start-slot-requires : tie.Need-start-slot-requires Inv-loop μ-loop
 start-slot-requires c κs =
@@ -47,7 +47,7 @@ start-slot-requires c κs =
     let len = c .before .before .before .before .before .before .before .before .before .before .ring-len in
     let n : ℕ = a .channels * a .voices in
     let d : length (l .delay) ≡ n * len .result = l .inv .3 ∙ s .pre .0 .lengths .delay ∙ ap (λ (k : ℕ). n * k) (sym (len .ensures)) in (
-      omega (arith, l .inv .2, s .pre .0 .lengths .records, piece-fits 30 (p .result) n (p .ensures .1)),
+      omega (arith, l .inv .2, s .pre .0 .lengths .records, piece-fits recordWidth (p .result) n (p .ensures .1)),
       omega (arith, d, piece-fits (len .result) (p .result) n (p .ensures .1)),
     )
 

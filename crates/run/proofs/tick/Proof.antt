@@ -1,12 +1,14 @@
 -- `run::tick` meets its contract: the calls leave what the definition's frame leaves.
-use mathlib.Core.Path.{refl, ap, _∙_}
+use mathlib.Core.Path.{refl, sym, ap, _∙_, subst}
+use Prim.Native.Nat.{ℕ, _≤_}
 use denote.Ref.{now}
 use borrow.Author.Needs.{needs}
 use lib.ListN.{length}
 use Rattle.lane.specs.Floats.{_‼_, fma}
 use Rattle.filter.specs.Voice.{OFFSET}
 use Rattle.run.specs.Run.{offsetOf}
-use Rattle.run.specs.Laws.{smooth-length}
+use Rattle.run.specs.Running.{settledOf}
+use Rattle.run.specs.Laws.{smooth-length, kernel-tick-kept, few-over}
 use Rattle.run.proofs.Frame.{frame}
 use Rattle.run.proofs.tick.Statement.{statement}
 use Rattle.run.proofs.tick.Tie as tie
@@ -14,18 +16,25 @@ use Rattle.run.proofs.tick.Tie as tie
 returns : tie.Need-returns
 unfolding offsetOf
 returns c =
-    let kernel = c .before .before .before .before .kernel-tick .ensures in
-    let steer2 = c .before .before .before .before .before .before .before .before .before .before .before in
+    let kernel = c .before .before .before .before .before .kernel-tick .ensures in
+    let steer2 = c .before .before .before .before .before .before .before .before .before .before .before .before in
     let steer1 = steer2 .before .before in
     let smooth = steer1 .before .before .before .before .before in
     let start = smooth .before .before .before .before .before in
     let a = start .args in
     let next = smooth .smooth .last .0 in (
-      frame (a .m) (now (a .sections)) (a .at) (a .f) (now (a .targets)) (now (a .params)) (now (a .state)) (now (a .delay)) next
-          (record { pitch = fma (next ‼ OFFSET) (a .f .sign) (a .f .pitch .0); x = steer1 .steer .result; y = steer2 .steer2 .result })
-          _ _ _ _
-          (start .pre .0) (smooth .smooth .ensures) refl (steer1 .steer .ensures) (steer2 .steer2 .ensures) (kernel .0) (kernel .1) (c .mix .ensures) refl,
-      ap length (smooth .smooth .ensures) ∙ smooth-length (a .m .k .alpha) (now (a .targets)) (now (a .params)),
+      λ b runs. (
+        c .raised .ensures b runs .0,
+        frame (a .m) (now (a .sections)) (a .at) (a .f) (now (a .targets)) (now (a .params)) (now (a .state)) (settledOf b (now (a .peak))) (now (a .delay)) next
+            (record { pitch = fma (next ‼ OFFSET) (a .f .sign) (a .f .pitch .0); x = steer1 .steer .result; y = steer2 .steer2 .result })
+            _ _ _ _ _
+            (start .pre .0) (smooth .smooth .ensures) refl (steer1 .steer .ensures) (steer2 .steer2 .ensures) (kernel .0) (kernel .1) (c .before .mix .ensures) refl (c .raised .ensures b runs .1),
+      ),
+      subst (λ (n : ℕ). n ≤ 8) (sym (kernel .1)) (few-over _ _ _ _ _ _),
+      record {
+        params = ap length (smooth .smooth .ensures) ∙ smooth-length (a .m .k .alpha) (now (a .targets)) (now (a .params));
+        state = ap length (kernel .0 .states) ∙ kernel-tick-kept _ _ _ _ _ _ _ _ _ _ .states ∙ start .pre .0 .state;
+      },
       kernel .2,
     )
 
@@ -35,4 +44,4 @@ tick-spec =
     (tie.spec
     (λ c κs. tt) (λ c. search needs) (λ c. search needs) (λ c κs. tt) (λ c. search needs) (λ c κs. tt)
     (λ c κs. let s = c .before .before .before .before .before .before .before .before .before .before .before .before .before .before .before .before .before .before in (s .pre .1, s .pre .2))
-    (λ c κs. tt) (λ c. search needs) returns)
+    (λ c κs. tt) (λ c κs. tt) (λ c. search needs) returns)

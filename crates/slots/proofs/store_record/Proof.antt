@@ -1,21 +1,27 @@
--- `store_record` meets its contract: two copies, one after the other, are the record's patch.
+-- `store_record` meets its contract: two copies and a number, one after the other, are the record's patch.
 use mathlib.Core.Path.{ap, _∙_}
 use mathlib.Core.List.{List}
 use Prim.Native.Nat.{_+_, _*_}
 use native.Mathlib.Omega.{arith}
 use denote.Ref.{now}
 use lib.Ieee.{Float}
+use lib.ListN.{set, length-set}
 use lib.Seq.{paste}
-use Rattle.slots.proofs.Laws.{two-stores}
+use Rattle.run.specs.Run.{PEAK}
+use Rattle.voices.specs.Calls.{targetsWidth, statesWidth, recordWidth}
+use Rattle.slots.proofs.Laws.{record-stored}
 use Rattle.slots.proofs.store_record.Statement.{statement}
 use Rattle.slots.proofs.store_record.Tie as tie
 
 returns : tie.Need-returns
 returns c =
-    let a = c .before .before .before .before .before .before .before .before .before .before .before .args in
-    c .before .before .copy2 .ensures
-    ∙ ap (λ (r : List Float). paste r (a .slot * 30 + 10) (now (a .state)) 20) (c .before .before .before .before .before .before .before .copy .ensures)
-    ∙ two-stores 10 20 (a .slot) (now (a .params)) (now (a .state)) (now (a .records)) (omega arith) (omega arith) (omega arith)
+    let s = c .before .before .before .before .before .before .before .before .before .before .before in
+    let a = s .args in
+    let o = a .slot * recordWidth in
+    ap (λ (r : List Float). set r (o + PEAK) (a .peak))
+    (c .before .before .copy2 .ensures
+    ∙ ap (λ (r : List Float). paste r (o + targetsWidth) (now (a .state)) statesWidth) (c .before .before .before .before .before .before .before .copy .ensures))
+    ∙ record-stored (a .slot) (now (a .records)) (s .pre) (now (a .params)) (now (a .state)) (a .peak) (omega arith) (omega arith)
 
 pub store-record-spec : {M : Type 1} → statement M
 store-record-spec =
@@ -26,4 +32,7 @@ store-record-spec =
     (λ c. omega arith)
     (λ c κs. (omega arith, omega arith))
     (λ c. omega arith)
+    (λ c. omega arith)
+    (λ c. omega arith)
+    (λ c. simp length-set (omega arith))
     returns)
