@@ -37,16 +37,17 @@ pub peak-nan : (p : Float) → peakOf p nan ≡ p
 unfolding peakOf absOf maxOf isNan neg
 peak-nan p = max-nan p .1
 
+pub max-inf : (p : Float) → maxOf p (inf false) ≡ inf false
+unfolding maxOf isBelow isNan lt
+max-inf nan = refl
+max-inf (inf true) = refl
+max-inf (inf false) = refl
+max-inf (fin s m e) = refl
+
 pub peak-infinite : (p : Float) (s : Bool) → peakOf p (inf s) ≡ inf false
 unfolding peakOf absOf maxOf isBelow isNan neg lt
-peak-infinite nan true = refl
-peak-infinite nan false = refl
-peak-infinite (inf true) true = refl
-peak-infinite (inf true) false = refl
-peak-infinite (inf false) true = refl
-peak-infinite (inf false) false = refl
-peak-infinite (fin t m e) true = refl
-peak-infinite (fin t m e) false = refl
+peak-infinite p true = max-inf p
+peak-infinite p false = max-inf p
 
 pub nan-goes : (x : Float) → peakOf nan x ≡ absOf x
 unfolding peakOf

@@ -11,14 +11,14 @@ use lib.IntN.{ℤ}
 use lib.Dec.{T, eqb, nltb→le}
 use lib.Ieee.{Float, nan, inf, fin, binary32, up, down, round, neg, lt, isNan, fits}
 use lib.Ieee.Fits.{neg-fits, inf-fits, up-pos, down-pos}
-use Rattle.bits.specs.Zeros.{zero-factor}
+use Rattle.bits.specs.Zeros.{zero-factor, zero-product}
 use Rattle.bits.specs.Values.{zero-form}
 use Rattle.lane.specs.Floats.{zero, one}
 use Rattle.lane.specs.Lane.{isPlusZero, isMinusZero, isBelow, maxOf}
 use Rattle.lane.specs.Order.{maxIn01, max-nan, max-moved}
 use Rattle.lane.specs.Compared.{max-compared}
 use Rattle.run.specs.Run.{peakOf}
-use Rattle.run.specs.Peak.{unsigned, abs-unsigned}
+use Rattle.run.specs.Peak.{unsigned, abs-unsigned, max-inf}
 
 -- a number without sign
 unfoldable pub isPlain : Float → Bool
@@ -63,41 +63,30 @@ off : (k : Bool) → k ≡ false → T (not k)
 off true h = true≢false h
 off false h = tt
 
-not-above : (b : Float) (k : ℕ) (e : ℤ) → lt zero b ≡ false → lt (fin false k e) b ≡ false
-unfolding lt round
-not-above nan k e h = refl
-not-above (inf true) k e h = refl
-not-above (inf false) k e h = absurd (true≢false h)
-not-above (fin true n d) k e h = refl
-not-above (fin false n d) k e h =
-    let none : n * up d * 1 ≤ 0 * 1 * down d = nltb→le (0 * 1 * down d) (n * up d * 1) (subst T (ap not (sym h)) tt) in
-    let zeroed : n * up d ≡ 0 = omega (arith, none, zero-mul (down d)) in
-    let nothing : n * up d * down e ≡ 0 = ap (λ (x : ℕ). x * down e) zeroed ∙ zero-mul (down e) in
-    le-ltb (k * up e * down d) (n * up d * down e) (omega (arith, nothing))
-
-low-max : (b : Float) (k : ℕ) (e : ℤ) → T (fits binary32 b) → T (fits binary32 (fin false k e)) → lt zero b ≡ false
-    → maxOf b (fin false k e) ≡ fin false k e
-unfolding isNan
-low-max b k e f g h = max-compared b (fin false k e) f g refl refl ∙ ap (λ (c : Bool). cond c b (fin false k e)) (not-above b k e h)
-
-max-inf : (q : Float) → maxOf q (inf false) ≡ inf false
-unfolding maxOf isBelow isNan lt
-max-inf nan = refl
-max-inf (inf true) = refl
-max-inf (inf false) = refl
-max-inf (fin s m e) = refl
-
--- ---- a number without sign stands for itself
-not-low : (k : ℕ) (e : ℤ) → lt (fin false k e) zero ≡ false
-unfolding lt round
-not-low k e = le-ltb (k * up e * 1) (0 * 1 * down e) (omega (arith, zero-mul (down e)))
-
 -- one that is not above 0 is 0
 is-zero : (k : ℕ) (e : ℤ) → lt zero (fin false k e) ≡ false → k ≡ 0
 unfolding lt round
 is-zero k e h =
     let none : k * up e * 1 ≤ 0 * 1 * down e = nltb→le (0 * 1 * down e) (k * up e * 1) (subst T (ap not (sym h)) tt) in
     zero-factor k (up e) (up-pos e) (omega (arith, none, zero-mul (down e)))
+
+not-above : (b : Float) (k : ℕ) (e : ℤ) → lt zero b ≡ false → lt (fin false k e) b ≡ false
+unfolding lt round
+not-above nan k e h = refl
+not-above (inf true) k e h = refl
+not-above (inf false) k e h = absurd (true≢false h)
+not-above (fin true n d) k e h = refl
+not-above (fin false n d) k e h = le-ltb (k * up e * down d) (n * up d * down e) (omega (arith, zero-product n (up d) (down e) (is-zero n d h)))
+
+low-max : (b : Float) (k : ℕ) (e : ℤ) → T (fits binary32 b) → T (fits binary32 (fin false k e)) → lt zero b ≡ false
+    → maxOf b (fin false k e) ≡ fin false k e
+unfolding isNan
+low-max b k e f g h = max-compared b (fin false k e) f g refl refl ∙ ap (λ (c : Bool). cond c b (fin false k e)) (not-above b k e h)
+
+-- ---- a number without sign stands for itself
+not-low : (k : ℕ) (e : ℤ) → lt (fin false k e) zero ≡ false
+unfolding lt round
+not-low k e = le-ltb (k * up e * 1) (0 * 1 * down e) (omega (arith, zero-mul (down e)))
 
 zero-is : (k : ℕ) (e : ℤ) → T (fits binary32 (fin false k e)) → k ≡ 0 → zero ≡ fin false k e
 unfolding round
@@ -123,8 +112,23 @@ runs-inf : (b : Float) → T (fits binary32 b) → Runs b (inf false) × (settle
 unfolding isNan lt settledOf round
 runs-inf b f = (record { number = refl; low = λ l. absurd (true≢false (sym l)); fits-b = f; fits-p = inf-fits binary32 false }, refl)
 
+-- ---- a number with a sign is below 0 or -0, which stands for +0
+signed-zero : (k : ℕ) (e : ℤ) → lt (fin true k e) zero ≡ false → k ≡ 0
+unfolding lt round
+signed-zero k e h =
+    let none : k * up e * 1 + 0 * 1 * down e ≤ 0 = nltb→le 0 (k * up e * 1 + 0 * 1 * down e) (off _ h) in
+    zero-factor k (up e) (up-pos e) (omega arith)
+
+minus-stands : (b : Float) (k : ℕ) (e : ℤ) → T (fits binary32 b) → T (fits binary32 (fin true k e)) → k ≡ 0
+    → Runs b (fin true k e) × (settledOf b (fin true k e) ≡ zero)
+unfolding settledOf isNan lt round
+minus-stands b k e f g h =
+    let low : lt (fin true k e) zero ≡ false = le-ltb 0 (k * up e * 1 + 0 * 1 * down e) (omega (arith, zero-product k (up e) 1 h, zero-mul (down e))) in (
+      record { number = refl; low = λ l. absurd (true≢false (sym l ∙ low)); fits-b = f; fits-p = g },
+      ap (λ (c : Bool). cond c b zero) low,
+    )
+
 -- ---- at a block's start
--- a number with a sign is below 0 or -0
 signed : (k : ℕ) (e : ℤ) → isPlain (fin true k e) ≡ true → ⊥
 unfolding isPlain isNan lt round
 signed k e h = go (lt (fin true k e) zero) refl (eqb k 0) refl h
@@ -132,10 +136,7 @@ signed k e h = go (lt (fin true k e) zero) refl (eqb k 0) refl h
     go : (l : Bool) → lt (fin true k e) zero ≡ l → (z : Bool) → eqb k 0 ≡ z → not l && true && not (true && z) ≡ true → ⊥
     go true a z b h = true≢false (sym h)
     go false a true b h = true≢false (sym h)
-    go false a false b h =
-        let none : k * up e * 1 + 0 * 1 * down e ≤ 0 = nltb→le 0 (k * up e * 1 + 0 * 1 * down e) (off _ a) in
-        let size : k ≡ 0 = zero-factor k (up e) (up-pos e) (omega arith) in
-        true≢false (sym (ap (λ (n : ℕ). eqb n 0) size) ∙ b)
+    go false a false b h = true≢false (sym (ap (λ (n : ℕ). eqb n 0) (signed-zero k e a)) ∙ b)
 
 plain-stands : (b : Float) → T (fits binary32 b) → isPlain b ≡ true → Runs b b × (settledOf b b ≡ b)
 unfolding isPlain isNan lt round
@@ -183,23 +184,23 @@ module _ (b : Float) (f : T (fits binary32 b)) (k : ℕ) (e : ℤ) (g : T (fits 
       go true h = of-size (settledOf b (fin false j d)) (ap (λ (q : Float). maxOf q m) (stands b j d i) ∙ sym h)
       go false h = (runs b j d f i, stands b j d i ∙ h ∙ ap (λ (q : Float). maxOf q m) (sym (stands b j d i)))
 
-  -- of -0, which takes the place of -1 where the first sample is -0
-  of-minus : (d : ℤ) → T (fits binary32 (fin true 0 d)) → Raised zero (cond (lt (fin true 0 d) m) m (fin true 0 d))
-  unfolding settledOf isNan lt round fits
-  of-minus d i = go (lt (fin true 0 d) m) refl
-    where
-      above : maxOf zero m ≡ m
-      above = low-max zero k e tt g refl
+  -- where m is not above a number with a sign, it is 0
+  no-size : (j : ℕ) (d : ℤ) → lt (fin true j d) m ≡ false → k ≡ 0
+  unfolding lt
+  no-size j d h =
+      let none : j * up d * down e + k * up e * down d ≤ 0 = nltb→le 0 (j * up d * down e + k * up e * down d) (off _ h) in
+      zero-factor k (up e) (up-pos e) (zero-factor (k * up e) (down d) (down-pos d) (omega arith))
 
-      go : (c : Bool) → lt (fin true 0 d) m ≡ c → Raised zero (cond c m (fin true 0 d))
-      go true h = of-size zero above
-      go false h =
-          let none : 0 * up d * down e + k * up e * down d ≤ 0 = nltb→le 0 (0 * up d * down e + k * up e * down d) (off _ h) in
-          let size : k ≡ 0 = zero-factor k (up e) (up-pos e) (zero-factor (k * up e) (down d) (down-pos d) (omega arith)) in
-          let low : lt (fin true 0 d) zero ≡ false = le-ltb 0 (0 * up d * 1 + 0 * 1 * down d) (omega (arith, zero-mul (up d), zero-mul (down d))) in (
-            record { number = refl; low = λ l. absurd (true≢false (sym l ∙ low)); fits-b = f; fits-p = i },
-            ap (λ (c : Bool). cond c b zero) low ∙ zero-is k e g size ∙ sym above,
-          )
+  -- of a number with a sign that is -0 or, if m is above it, any, beside a peak q that is not above m
+  of-signed : (q : Float) (j : ℕ) (d : ℤ) → T (fits binary32 (fin true j d)) → (lt (fin true j d) m ≡ false → j ≡ 0) → maxOf q m ≡ m
+      → Raised q (cond (lt (fin true j d) m) m (fin true j d))
+  of-signed q j d i z h = go (lt (fin true j d) m) refl
+    where
+      go : (c : Bool) → lt (fin true j d) m ≡ c → Raised q (cond c m (fin true j d))
+      go true l = of-size q h
+      go false l =
+          let minus = minus-stands b j d f i (z l) in
+          (minus .0, minus .1 ∙ zero-is k e g (no-size j d l) ∙ sym h)
 
   -- of -1, in the place of a peak that is not above 0
   under : lt (neg one) m ≡ true
@@ -213,20 +214,8 @@ module _ (b : Float) (f : T (fits binary32 b)) (k : ℕ) (e : ℤ) (g : T (fits 
       (of-size b (low-max b k e f g h))
   of-low true i h = go (lt (neg one) (fin true k e))
     where
-      -- the sample in the place of -1: below 0, or -0
-      own : (c : Bool) → lt (fin true k e) m ≡ c → Raised b (cond c m (fin true k e))
-      own true l = of-size b (low-max b k e f g h)
-      own false l =
-          let none : k * up e * down e + k * up e * down e ≤ 0 = nltb→le 0 (k * up e * down e + k * up e * down e) (off _ l) in
-          let size : k ≡ 0 = zero-factor k (up e) (up-pos e) (zero-factor (k * up e) (down e) (down-pos e) (omega arith)) in
-          let low : lt (fin true k e) zero ≡ false =
-          le-ltb 0 (k * up e * 1 + 0 * 1 * down e) (omega (arith, ap (λ (n : ℕ). n * up e) size, zero-mul (up e), zero-mul (down e))) in (
-            record { number = refl; low = λ z. absurd (true≢false (sym z ∙ low)); fits-b = f; fits-p = i },
-            ap (λ (c : Bool). cond c b zero) low ∙ zero-is k e g size ∙ sym (low-max b k e f g h),
-          )
-
       go : (c : Bool) → Raised b (cond (lt (cond c (fin true k e) (neg one)) m) m (cond c (fin true k e) (neg one)))
-      go true = own (lt (fin true k e) m) refl
+      go true = of-signed b k e i (no-size k e) (low-max b k e f g h)
       go false = subst (λ (c : Bool). Raised b (cond c m (neg one))) (sym under) (of-size b (low-max b k e f g h))
 
   -- of p that is not below 0 the two comparisons are one, with m
@@ -244,16 +233,8 @@ module _ (b : Float) (f : T (fits binary32 b)) (k : ℕ) (e : ℤ) (g : T (fits 
       go false = refl
   one-test (fin true j d) s n l = sides s
     where
-      nothing : j * up d * down e ≡ 0
-      nothing =
-          let none : j * up d * 1 + 0 * 1 * down d ≤ 0 = nltb→le 0 (j * up d * 1 + 0 * 1 * down d) (off _ l) in
-          ap (λ (n : ℕ). n * down e) (omega-zero none) ∙ zero-mul (down e)
-        where
-          omega-zero : j * up d * 1 + 0 * 1 * down d ≤ 0 → j * up d ≡ 0
-          omega-zero h = omega arith
-
       never : lt (fin true j d) (fin true k e) ≡ false
-      never = le-ltb (k * up e * down d) (j * up d * down e) (omega (arith, nothing))
+      never = le-ltb (k * up e * down d) (j * up d * down e) (omega (arith, zero-product j (up d) (down e) (signed-zero j d l)))
 
       go : (c : Bool) → cond (lt (cond c m (fin true j d)) (fin true k e)) (fin true k e) (cond c m (fin true j d)) ≡ cond c m (fin true j d)
       go true = refl
@@ -264,24 +245,15 @@ module _ (b : Float) (f : T (fits binary32 b)) (k : ℕ) (e : ℤ) (g : T (fits 
       sides true = ap (λ (c : Bool). cond (lt (cond c (fin true k e) (fin true j d)) m) m (cond c (fin true k e) (fin true j d))) never
 
   of-other : (p : Float) → Runs b p → lt p zero ≡ false → Raised (settledOf b p) (cond (lt p m) m p)
-  unfolding settledOf isNan lt round maxOf isBelow
+  unfolding settledOf isNan lt round maxOf isBelow fits
   of-other nan r l = absurd (true≢false (r .number))
   of-other (inf true) r l = absurd (true≢false l)
   of-other (inf false) r l = runs-inf b f
   of-other (fin false j d) r l = of-plain j d (r .fits-p)
-  of-other (fin true j d) r l = of-zero j zeroed (r .fits-p) l
-    where
-      zeroed : j ≡ 0
-      zeroed =
-          let none : j * up d * 1 + 0 * 1 * down d ≤ 0 = nltb→le 0 (j * up d * 1 + 0 * 1 * down d) (off _ l) in
-          zero-factor j (up d) (up-pos d) (omega arith)
-
-      of-zero : (n : ℕ) → n ≡ 0 → T (fits binary32 (fin true n d)) → lt (fin true n d) zero ≡ false
-          → Raised (settledOf b (fin true n d)) (cond (lt (fin true n d) m) m (fin true n d))
-      of-zero n h i z =
-          subst (λ (q : Float). Raised q (cond (lt (fin true n d) m) m (fin true n d))) (sym (ap (λ (c : Bool). cond c b zero) z))
-          (subst (λ (n : ℕ). Raised zero (cond (lt (fin true n d) m) m (fin true n d))) (sym h)
-          (of-minus d (subst (λ (n : ℕ). T (fits binary32 (fin true n d))) h i)))
+  of-other (fin true j d) r l =
+      let z = signed-zero j d l in
+      subst (λ (q : Float). Raised q (cond (lt (fin true j d) m) m (fin true j d))) (sym (minus-stands b j d f (r .fits-p) z .1))
+      (of-signed zero j d (r .fits-p) (λ h. z) (low-max zero k e tt g refl))
 
   of-number : (p : Float) (s : Bool) → T (fits binary32 (fin s k e)) → Runs b p → Raised (settledOf b p) (raisedOf p (fin s k e))
   unfolding settledOf lt neg round
