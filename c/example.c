@@ -1,5 +1,5 @@
 /* Opens a bank of four voices in stereo, renders a second of a chord through a sweeping transistor ladder, and prints what it did.
- * Half-way the bank is parked and goes on as restored, which changes no bit of the sound.
+ * Half-way the bank is parked and goes on as restored, which changes no bit of the sound. At the end a block is auditioned, which leaves the bank.
  * With a file's name it also writes the sound there, as 16-bit WAV.
  *
  * Build and run, from the repository's root, once `rt staticlib sentivolus` has made the archive:
@@ -163,7 +163,7 @@ int main(int count, char **words)
 {
     sentivolus_setup setup = sentivolus_new_setup(SENTIVOLUS_TRANSISTOR_LADDER, (float)RATE, VOICES, CHANNELS);
     sentivolus_params params = sentivolus_default_params();
-    sentivolus_bank bank;
+    sentivolus_bank bank, scratch;
     sentivolus_input input;
     float phase[VOICES] = {0.0f};
     unsigned long swept = 0;
@@ -206,16 +206,19 @@ int main(int count, char **words)
             printf("%s %.4f", v > 0 ? "" : c == 0 ? " left" : ", right", (double)sentivolus_bank_peak(&setup, &bank, c, v));
     printf("\n");
 
-    /* The sweep ends at pitch 117 and the ceiling is near 137.9. At pitch 138 the offset of 2 puts the right channel over it, the left one below. */
+    /* The sweep ends at pitch 117 and the ceiling is near 137.9. At pitch 138 the offset of 2 puts the right channel over it, the left one below: heard on
+     * a copy of the bank, before such a block is committed. */
     for (size_t i = 0; i < BLOCK * VOICES; i++)
         pitch[i] = 138.0f;
-    must(sentivolus_bank_block(&setup, &bank, &input, audio, BLOCK * CHANNELS * VOICES, counts, CHANNELS * VOICES), "block");
-    printf("over the pitch ceiling: %lu times in the sweep; in a block at pitch 138 %lu times left, %lu right\n", swept, over(0), over(1));
+    make_lists(&setup, &scratch);
+    must(sentivolus_bank_audition(&setup, &bank, &input, &scratch, audio, BLOCK * CHANNELS * VOICES, counts, CHANNELS * VOICES), "audition");
+    printf("over the pitch ceiling: %lu times in the sweep; auditioned at pitch 138, %lu times left, %lu right\n", swept, over(0), over(1));
 
     input.frames = 4097;
     printf("a block of 4097 frames is refused: %s\n",
            sentivolus_refusal_word(sentivolus_bank_block(&setup, &bank, &input, audio, BLOCK * CHANNELS * VOICES, counts, CHANNELS * VOICES)));
     free_lists(&bank);
+    free_lists(&scratch);
     if (count > 1) {
         if (!write_wav(words[1])) {
             fprintf(stderr, "example: cannot write %s\n", words[1]);

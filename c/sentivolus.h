@@ -1,7 +1,7 @@
 /* Sentivolus, the proved voice filter bank: its interface for C and C++.
  *
  * Link target/staticlib/libsentivolus.a (x86-64 Linux; `rt staticlib sentivolus` writes it). It needs memcpy and memset alone.
- * example.c, beside this file, opens a bank, renders a chord, and parks and restores it half-way.
+ * example.c, beside this file, opens a bank, renders a chord, parks and restores it half-way, and auditions a block.
  *
  * 1. Numbers and names   2. Structs   3. The archive's symbols   4. The calls
  * The calls of part 4 take structs and see to the float environment: use these. They are inline, over the symbols of part 3, which take
@@ -19,13 +19,13 @@
  *   Ownership   The caller owns every list and struct and lends it for the call; nothing is kept between calls.
  *   Pointers    A list is a pointer and its length in elements. An empty list may have any pointer, NULL too. Every other pointer must be
  *               valid and aligned as its type asks; none is tested.
- *   Aliasing    What a call writes (a list, the file, *cursor, *rendered, out, the numbers of a setup) overlaps nothing else that the call
- *               is lent.
+ *   Aliasing    What a call writes (a list, the file, *cursor, *scratch_cursor, *rendered, out, the numbers of a setup) overlaps nothing else
+ *               that the call is lent: an audition's scratch is never the bank, nor a part of it.
  *   Threads     The archive has no variables. Any thread may call it; two calls at once share no list that one of them writes.
  *   Real time   No allocation, no lock, no system call. Less than 8 KiB of stack; reading a parked file (sentivolus_file_setup and
  *               sentivolus_bank_restore, and the symbols under them) less than 64 KiB, for a table of its blocks' places. The time goes
- *               with voices x channels x frames, that of parking and reading with the file's bytes; numbers in the subnormal range
- *               take several times as long (docs/PERFORMANCE.md).
+ *               with voices x channels x frames, that of parking and reading with the file's bytes; an audition copies the bank's lists
+ *               besides. Numbers in the subnormal range take several times as long (docs/PERFORMANCE.md).
  *
  * Layouts (slot = channel * voices + voice)
  *
@@ -35,8 +35,8 @@
  *   delay       sentivolus_ring_len(rate) a slot: the ring
  *   pitch, x, y [frame][voice]; x and y are empty in an unsteered block
  *   audio       [frame][channel][voice], filtered in place
- *   counts      one u32 a slot, written anew by each accepted block: how often in it a cutoff was over the pitch ceiling, 0.49 of the rate, before
- *               it was held there (equal is not over, NaN is not). A frame counts 0 or 1; with SENTIVOLUS_COMB2 0 or 2, its two reads; with
+ *   counts      one u32 a slot, written anew by each accepted block or audition: how often in it a cutoff was over the pitch ceiling, 0.49 of the
+ *               rate, before it was held there (equal is not over, NaN is not). A frame counts 0 or 1; with SENTIVOLUS_COMB2 0 or 2, its two reads; with
  *               SENTIVOLUS_POLE_ZERO each running section that was over, 0 to 8. With SENTIVOLUS_DJ_SWEEP the cutoff is the one that the sweep
  *               comes to, not the pitch handed in
  *   sections    160 numbers: by section, then octaves, damping, high, band, low, then the terms c, x, y, xy of each
@@ -61,7 +61,7 @@ extern "C" {
 
 /* 10,000 x major + 100 x minor + patch. It grows with every change of a call, a struct or a layout; sentivolus_version() gives that of the
  * archive. */
-#define SENTIVOLUS_VERSION 700
+#define SENTIVOLUS_VERSION 800
 
 enum {
     SENTIVOLUS_MOST_VOICES = 16,
@@ -120,14 +120,15 @@ typedef enum sentivolus_refusal {
     SENTIVOLUS_REFUSED_BUFFER = 10,   /* pitch, x, y or audio not exactly as long as the frames ask, or counts as the slots ask */
     SENTIVOLUS_REFUSED_POINT = 11,    /* point number above 7 */
     SENTIVOLUS_REFUSED_DAMAGED = 12,  /* a parked file's length no multiple of 512, or a block whose words do not sum to zero */
-    SENTIVOLUS_REFUSED_BLOCKS = 13    /* a block of a parked file missing, doubled or unknown, or its clean word above 1 */
+    SENTIVOLUS_REFUSED_BLOCKS = 13,   /* a block of a parked file missing, doubled or unknown, or its clean word above 1 */
+    SENTIVOLUS_REFUSED_SCRATCH = 14   /* targets, records or delay of an audition's scratch not exactly as long as the setup asks */
 } sentivolus_refusal;
 
 /* The trade's word for a refusal's number. */
 static inline const char *sentivolus_refusal_word(uint32_t number)
 {
     static const char *const words[] = {"accepted", "rate", "tuning", "polyphony", "layout", "structure",
-                                        "store", "voice", "knob", "frames", "buffer", "point", "damaged", "blocks"};
+                                        "store", "voice", "knob", "frames", "buffer", "point", "damaged", "blocks", "scratch"};
     return number < sizeof words / sizeof words[0] ? words[number] : "unknown";
 }
 
@@ -152,7 +153,8 @@ typedef struct sentivolus_setup {
     sentivolus_pole_zero_table table; /* read by SENTIVOLUS_POLE_ZERO alone */
 } sentivolus_setup;
 
-/* The lists that the caller lends, and the cursor of the rings, any number. Their lengths: sentivolus_targets_len and its like. */
+/* The lists that the caller lends, and the cursor of the rings, any number. Their lengths: sentivolus_targets_len and its like. An audition's
+ * scratch is a second one. */
 typedef struct sentivolus_bank {
     float *targets;
     size_t targets_len;
@@ -235,6 +237,17 @@ uint32_t sentivolus_block(uint32_t code, float rate, float reference, size_t voi
                           float *delay, size_t delay_len, size_t frames, const float *pitch, size_t pitch_len, bool steered,
                           const float *x, size_t x_len, const float *y, size_t y_len, float *audio, size_t audio_len,
                           uint32_t *counts, size_t counts_len, size_t *rendered);
+
+/* As sentivolus_block on a copy of the bank, made in the scratch lists, whatever they hold; *scratch_cursor becomes the copy's new cursor. The bank's
+ * lists stay as they are, and its cursor is the caller's to keep. */
+uint32_t sentivolus_audition(uint32_t code, float rate, float reference, size_t voices, size_t channels, bool clean,
+                             uint32_t active, const float sections[], float gain, size_t cursor,
+                             const float *targets, size_t targets_len, const float *records, size_t records_len,
+                             const float *delay, size_t delay_len, size_t *scratch_cursor,
+                             float *scratch_targets, size_t scratch_targets_len, float *scratch_records, size_t scratch_records_len,
+                             float *scratch_delay, size_t scratch_delay_len, size_t frames, const float *pitch, size_t pitch_len, bool steered,
+                             const float *x, size_t x_len, const float *y, size_t y_len, float *audio, size_t audio_len,
+                             uint32_t *counts, size_t counts_len, size_t *rendered);
 
 /* The bytes of the file that a bank of this setup is parked in; 0 for a setup that is refused. */
 size_t sentivolus_park_len(uint32_t code, float rate, float reference, size_t voices, size_t channels, bool clean,
@@ -455,6 +468,24 @@ static inline sentivolus_refusal sentivolus_bank_block(const sentivolus_setup *s
                                        in->steered, in->x, in->x_len, in->y, in->y_len, audio, audio_len, counts, counts_len, &rendered);
     sentivolus_floats_leave(before);
     b->cursor = cursor;
+    return (sentivolus_refusal)answer;
+}
+
+/* Auditions a block: audio and counts become what sentivolus_bank_block would make of them, and the bank stays as it is. scratch has lists as long as
+ * the bank's, whatever they hold; afterwards it is, cursor included, the bank that the block would leave, so that to go on with it is to have committed
+ * the block. Refusals 1 to 6, 9, 10 and then 14. */
+static inline sentivolus_refusal sentivolus_bank_audition(const sentivolus_setup *s, const sentivolus_bank *b, const sentivolus_input *in,
+                                                          sentivolus_bank *scratch, float *audio, size_t audio_len,
+                                                          uint32_t *counts, size_t counts_len)
+{
+    size_t cursor = 0, rendered = 0;
+    unsigned before = sentivolus_floats_enter();
+    uint32_t answer = sentivolus_audition(SENTIVOLUS_SETUP_OF(s), b->cursor, SENTIVOLUS_LISTS_OF(b), &cursor, SENTIVOLUS_LISTS_OF(scratch),
+                                          in->frames, in->pitch, in->pitch_len, in->steered, in->x, in->x_len, in->y, in->y_len,
+                                          audio, audio_len, counts, counts_len, &rendered);
+    sentivolus_floats_leave(before);
+    if (answer == SENTIVOLUS_ACCEPTED)
+        scratch->cursor = cursor;
     return (sentivolus_refusal)answer;
 }
 

@@ -1,6 +1,6 @@
 /* What the declarations cannot say: that the calls give the same bits in every float environment and give the caller's back, that each number
- * arrives where it is meant to, that a parked file is as the header lays it out, that peaks are of the samples handed back, and that the stack suffices.
- * Prints `c: N checks` and answers 0, or says which failed. */
+ * arrives where it is meant to, that a parked file is as the header lays it out, that peaks are of the samples handed back, that an audition is the
+ * block and leaves the bank, and that the stack suffices. Prints `c: N checks` and answers 0, or says which failed. */
 #define _GNU_SOURCE
 #include "sentivolus.h"
 #include <math.h>
@@ -24,13 +24,15 @@ static void check(int holds, const char *what, int which)
     }
 }
 
-/* A bank with the lists of four slots at 48,000 Hz, a block's audio, its counts with one more after them, and a parked file. */
+/* A bank with the lists of four slots at 48,000 Hz, a block's audio, its counts with one more after them, and a parked file; and the scratch, the audio
+ * and the counts of an audition. */
 typedef struct session {
     float targets[SENTIVOLUS_TARGETS * VOICES], records[SENTIVOLUS_RECORD * SLOTS], delay[RING * SLOTS], audio[FRAMES * SLOTS];
-    uint32_t counts[SLOTS + 1];
+    float scratch_targets[SENTIVOLUS_TARGETS * VOICES], scratch_records[SENTIVOLUS_RECORD * SLOTS], scratch_delay[RING * SLOTS], heard[FRAMES * SLOTS];
+    uint32_t counts[SLOTS + 1], heard_counts[SLOTS + 1];
     uint8_t file[FILE_LEN];
     sentivolus_setup setup;
-    sentivolus_bank bank;
+    sentivolus_bank bank, scratch;
     sentivolus_input input;
 } session;
 
@@ -48,30 +50,32 @@ static sentivolus_design bells(void)
     return d;
 }
 
-/* Lists full of 0.5, counts and a file of 7; noise, loud for voice 0 and about the smallest normal number for voice 1. */
-static void make(session *t, uint32_t code)
+/* Lends a bank these lists, full of a number. */
+static void lend(sentivolus_bank *b, float *targets, float *records, float *delay, float full, size_t cursor)
 {
-    float *lists[] = {t->targets, t->records, t->delay};
-    size_t lengths[] = {SENTIVOLUS_TARGETS * VOICES, SENTIVOLUS_RECORD * SLOTS, RING * SLOTS};
-    uint32_t noise = 1;
+    sentivolus_bank lent = {targets, SENTIVOLUS_TARGETS * VOICES, records, SENTIVOLUS_RECORD * SLOTS, delay, RING * SLOTS, cursor};
+    float *lists[] = {targets, records, delay};
+    size_t lengths[] = {lent.targets_len, lent.records_len, lent.delay_len};
     for (int l = 0; l < 3; l++)
         for (size_t i = 0; i < lengths[l]; i++)
-            lists[l][i] = 0.5f;
+            lists[l][i] = full;
+    *b = lent;
+}
+
+/* Lists full of 0.5, a scratch of 0.25, counts and a file of 7; noise, loud for voice 0 and about the smallest normal number for voice 1. */
+static void make(session *t, uint32_t code)
+{
+    uint32_t noise = 1;
+    lend(&t->bank, t->targets, t->records, t->delay, 0.5f, 99);
+    lend(&t->scratch, t->scratch_targets, t->scratch_records, t->scratch_delay, 0.25f, 98);
     for (int i = 0; i <= SLOTS; i++)
-        t->counts[i] = 7;
+        t->counts[i] = t->heard_counts[i] = 7;
     memset(t->file, 7, FILE_LEN);
     for (int i = 0; i < FRAMES * SLOTS; i++) {
         noise = 1664525u * noise + 1013904223u;
-        t->audio[i] = ldexpf((float)(int32_t)noise, i % VOICES == 0 ? -32 : -32 - 124);
+        t->audio[i] = t->heard[i] = ldexpf((float)(int32_t)noise, i % VOICES == 0 ? -32 : -32 - 124);
     }
     t->setup = sentivolus_new_setup(code, 48000.0f, VOICES, CHANNELS);
-    t->bank.targets = t->targets;
-    t->bank.targets_len = lengths[0];
-    t->bank.records = t->records;
-    t->bank.records_len = lengths[1];
-    t->bank.delay = t->delay;
-    t->bank.delay_len = lengths[2];
-    t->bank.cursor = 99;
     t->input.frames = FRAMES;
     t->input.pitch = pitch;
     t->input.pitch_len = FRAMES * VOICES;
@@ -94,6 +98,12 @@ static void spoil(session *t)
 static sentivolus_refusal render(session *t, size_t counts)
 {
     return sentivolus_bank_block(&t->setup, &t->bank, &t->input, t->audio, FRAMES * SLOTS, t->counts, counts);
+}
+
+/* Its audition in the session's scratch, likewise. */
+static sentivolus_refusal audition(session *t, size_t counts)
+{
+    return sentivolus_bank_audition(&t->setup, &t->bank, &t->input, &t->scratch, t->heard, FRAMES * SLOTS, t->heard_counts, counts);
 }
 
 static sentivolus_params loud(void)
@@ -120,6 +130,7 @@ static void run(session *t, uint32_t code, unsigned mxcsr)
     sentivolus_refusal opened = sentivolus_bank_open(&t->setup, &t->bank);
     sentivolus_refusal set = sentivolus_bank_set(&t->setup, &t->bank, 1, &params);
     sentivolus_refusal started = sentivolus_bank_start(&t->setup, &t->bank, 1);
+    sentivolus_refusal auditioned = audition(t, SLOTS);
     sentivolus_refusal rendered = render(t, SLOTS);
     size_t file_len = sentivolus_file_len(&t->setup);
     sentivolus_refusal parked = sentivolus_bank_park(&t->setup, &t->bank, t->file, file_len);
@@ -129,7 +140,7 @@ static void run(session *t, uint32_t code, unsigned mxcsr)
     unsigned after = _mm_getcsr();
     _mm_setcsr(before);
     check((after & ~SENTIVOLUS_MXCSR_FLAGS) == (mxcsr & ~SENTIVOLUS_MXCSR_FLAGS), "the caller's MXCSR comes back", (int)mxcsr);
-    check(!opened && !set && !started && !rendered && !parked && !read && !restored, "every call is accepted", (int)code);
+    check(!opened && !set && !started && !auditioned && !rendered && !parked && !read && !restored, "every call is accepted", (int)code);
 }
 
 static int same_setup(const sentivolus_setup *a, const sentivolus_setup *b)
@@ -139,12 +150,34 @@ static int same_setup(const sentivolus_setup *a, const sentivolus_setup *b)
            !memcmp(a->table.sections, b->table.sections, sizeof a->table.sections);
 }
 
-static int same(const session *a, const session *b)
+/* The same lists, setup and cursor of two banks. */
+static int same_bank(const session *a, const session *b)
 {
     return !memcmp(a->targets, b->targets, sizeof a->targets) && !memcmp(a->records, b->records, sizeof a->records) &&
-           !memcmp(a->delay, b->delay, sizeof a->delay) && !memcmp(a->audio, b->audio, sizeof a->audio) &&
-           !memcmp(a->counts, b->counts, sizeof a->counts) && !memcmp(a->file, b->file, FILE_LEN) && same_setup(&a->setup, &b->setup) &&
-           a->bank.cursor == b->bank.cursor;
+           !memcmp(a->delay, b->delay, sizeof a->delay) && same_setup(&a->setup, &b->setup) && a->bank.cursor == b->bank.cursor;
+}
+
+static int same_scratch(const session *a, const session *b)
+{
+    return !memcmp(a->scratch_targets, b->scratch_targets, sizeof a->scratch_targets) &&
+           !memcmp(a->scratch_records, b->scratch_records, sizeof a->scratch_records) &&
+           !memcmp(a->scratch_delay, b->scratch_delay, sizeof a->scratch_delay) && a->scratch.cursor == b->scratch.cursor;
+}
+
+static int same(const session *a, const session *b)
+{
+    return same_bank(a, b) && same_scratch(a, b) && !memcmp(a->audio, b->audio, sizeof a->audio) && !memcmp(a->heard, b->heard, sizeof a->heard) &&
+           !memcmp(a->counts, b->counts, sizeof a->counts) && !memcmp(a->heard_counts, b->heard_counts, sizeof a->heard_counts) &&
+           !memcmp(a->file, b->file, FILE_LEN);
+}
+
+/* Whether the session's block gave what its audition did: audio, counts and all of the bank. */
+static int as_heard(const session *t)
+{
+    return !memcmp(t->heard, t->audio, sizeof t->audio) && !memcmp(t->heard_counts, t->counts, sizeof t->counts) &&
+           !memcmp(t->scratch_targets, t->targets, t->bank.targets_len * sizeof(float)) &&
+           !memcmp(t->scratch_records, t->records, t->bank.records_len * sizeof(float)) &&
+           !memcmp(t->scratch_delay, t->delay, t->bank.delay_len * sizeof(float)) && t->scratch.cursor == t->bank.cursor;
 }
 
 /* The archive's block by itself, in the float environment of `mxcsr`. */
@@ -190,13 +223,13 @@ static void float_environments(void)
 static void refusals(void)
 {
     static const char *const words[] = {"accepted", "rate", "tuning", "polyphony", "layout", "structure", "store",
-                                        "voice", "knob", "frames", "buffer", "point", "damaged", "blocks", "unknown"};
+                                        "voice", "knob", "frames", "buffer", "point", "damaged", "blocks", "scratch", "unknown"};
     sentivolus_design design = sentivolus_new_design();
     sentivolus_params p = sentivolus_default_params();
     sentivolus_bank none = {NULL, 0, NULL, 0, NULL, 0, 0};
     float out[5] = {1, 2, 3, 4, 5};
     session *t = &other;
-    for (uint32_t n = 0; n < 15; n++)
+    for (uint32_t n = 0; n < 16; n++)
         check(!strcmp(sentivolus_refusal_word(n), words[n]), "a refusal's word", (int)n);
     for (uint32_t n = 1; n <= 5; n++) {
         make(t, 9);
@@ -435,11 +468,17 @@ static void one_voice(void)
     t->bank.targets_len /= VOICES;
     t->bank.records_len /= VOICES;
     t->bank.delay_len /= VOICES;
+    t->scratch.targets_len /= VOICES;
+    t->scratch.records_len /= VOICES;
+    t->scratch.delay_len /= VOICES;
+    t->input.pitch_len = t->input.x_len = t->input.y_len = FRAMES;
     size_t length = sentivolus_file_len(&t->setup);
     check(length == BYTES * (2 + 1 + CHANNELS + CHANNELS * ((RING + HELD - 1) / HELD)), "the file of one voice", 0);
     check(!sentivolus_bank_park(&t->setup, &t->bank, t->file, length) && t->file[8] == 1 && t->file[12] == CHANNELS, "one voice parked", 0);
     check(!sentivolus_file_setup(t->file, length, &s, NULL) && s.voices == 1 && s.channels == CHANNELS, "the setup of its file", 0);
     check(!sentivolus_bank_restore(t->file, length, &t->setup, &t->bank) && t->setup.voices == 1 && t->setup.channels == CHANNELS, "one voice restored", 0);
+    check(!sentivolus_bank_audition(&t->setup, &t->bank, &t->input, &t->scratch, t->heard, FRAMES * CHANNELS, t->heard_counts, CHANNELS) &&
+          !sentivolus_bank_block(&t->setup, &t->bank, &t->input, t->audio, FRAMES * CHANNELS, t->counts, CHANNELS) && as_heard(t), "one voice auditioned", 0);
 }
 
 /* NaNs of every kind, signalling ones too, in every float environment. */
@@ -645,6 +684,98 @@ static void earlier_files(void)
     check(!sentivolus_bank_restore(t->file, FILE_LEN, &t->setup, &t->bank) && same(t, u), "a file without peaks", 0);
 }
 
+/* ---- auditions */
+
+/* A bank that has rendered a block is auditioned and stays; then the block is committed and gives what was heard; and from the scratch the next block is
+ * the bank's own. */
+static void auditions(void)
+{
+    static session kept;
+    static float x[FRAMES * VOICES], y[FRAMES * VOICES];
+    sentivolus_design design = bells();
+    session *t = &usual;
+    for (size_t i = 0; i < FRAMES * VOICES; i++) {
+        x[i] = 0.125f * (float)(i % 7);
+        y[i] = 0.25f * (float)(i % 3);
+    }
+    for (uint32_t code = 1; code <= 12; code++) {
+        raw_block(t, code, SENTIVOLUS_MXCSR);
+        t->setup.table = sentivolus_design_table(&design);
+        t->setup.table.gain = 0.75f;
+        t->setup.reference = 4410.0f;
+        t->setup.clean = code % 2 == 0;
+        t->bank.cursor = ((size_t)code << 32) - 100;
+        t->input.x = x;
+        t->input.y = y;
+        memcpy(t->heard, t->audio, sizeof t->heard);
+        memcpy(&kept, t, sizeof kept);
+        check(!audition(t, SLOTS) && same_bank(t, &kept), "an audition leaves the bank", (int)code);
+        check(memcmp(t->heard, kept.heard, sizeof t->heard) && t->heard_counts[0] > 0 && t->heard_counts[0] != 7 && t->heard_counts[SLOTS] == 7,
+              "something is heard and counted", (int)code);
+        check(t->scratch.cursor == t->bank.cursor + (code == SENTIVOLUS_COMB2 ? FRAMES : 0), "the copy's cursor", (int)code);
+        check(!render(t, SLOTS) && as_heard(t), "the block is what was heard", (int)code);
+        check(!render(t, SLOTS) && !sentivolus_bank_block(&t->setup, &t->scratch, &t->input, t->heard, FRAMES * SLOTS, t->heard_counts, SLOTS) &&
+              as_heard(t), "the next block of bank and scratch", (int)code);
+    }
+}
+
+/* The archive's audition by itself. */
+static uint32_t raw_audition(session *t, size_t counts, size_t *rendered)
+{
+    const sentivolus_setup *s = &t->setup;
+    const sentivolus_bank *b = &t->bank;
+    const sentivolus_input *in = &t->input;
+    sentivolus_bank *c = &t->scratch;
+    return sentivolus_audition(s->code, s->rate, s->reference, s->voices, s->channels, s->clean, s->table.active, s->table.sections, s->table.gain,
+                               b->cursor, b->targets, b->targets_len, b->records, b->records_len, b->delay, b->delay_len, &c->cursor,
+                               c->targets, c->targets_len, c->records, c->records_len, c->delay, c->delay_len, in->frames, in->pitch, in->pitch_len,
+                               in->steered, in->x, in->x_len, in->y, in->y_len, t->heard, FRAMES * SLOTS, t->heard_counts, counts, rendered);
+}
+
+/* Refused so by both, and nothing of the session changed. */
+static void refused_audition(session *t, size_t counts, uint32_t refusal, const char *what, int which)
+{
+    static session kept;
+    size_t rendered = 77;
+    memcpy(&kept, t, sizeof kept);
+    check(audition(t, counts) == refusal && raw_audition(t, counts, &rendered) == refusal, what, which);
+    check(!memcmp(t, &kept, sizeof kept) && rendered == 77, "a refused audition changes nothing", which);
+}
+
+/* All faults of an audition, and one less each time, the first mended; then the scratch alone, each list too short, too long and empty. */
+static void audition_refusals(void)
+{
+    static const uint32_t refusals[] = {1, 2, 3, 4, 5, 6, 9, 10, 10, 14};
+    static float longer[RING * SLOTS + 1];
+    static const float blank[RING * SLOTS + 1];
+    const size_t count = sizeof refusals / sizeof refusals[0];
+    session *t = &usual;
+    size_t rendered = 77;
+    for (size_t first = 0; first < count; first++) {
+        make(t, first <= 4 ? 13 : SENTIVOLUS_COMB2);
+        t->setup.rate = first <= 0 ? 7999.0f : t->setup.rate;
+        t->setup.reference = first <= 1 ? NAN : t->setup.reference;
+        t->setup.voices = first <= 2 ? SIZE_MAX : VOICES;
+        t->setup.channels = first <= 3 ? 3 : CHANNELS;
+        t->bank.records_len -= first <= 5;
+        t->input.frames = first <= 6 ? 4097 : FRAMES;
+        t->input.pitch_len -= first <= 7;
+        t->scratch.delay_len--;
+        refused_audition(t, first <= 8 ? SLOTS + 1 : SLOTS, refusals[first], "an audition's refusal", (int)first);
+    }
+    for (int i = 0; i < 9; i++) {
+        make(t, SENTIVOLUS_COMB2);
+        float **list = i / 3 == 0 ? &t->scratch.targets : i / 3 == 1 ? &t->scratch.records : &t->scratch.delay;
+        size_t *length = i / 3 == 0 ? &t->scratch.targets_len : i / 3 == 1 ? &t->scratch.records_len : &t->scratch.delay_len;
+        *list = i % 3 == 0 ? *list : i % 3 == 1 ? longer : NULL;
+        *length = i % 3 == 0 ? *length - 1 : i % 3 == 1 ? *length + 1 : 0;
+        refused_audition(t, SLOTS, SENTIVOLUS_REFUSED_SCRATCH, "a scratch list of a wrong length", i);
+    }
+    check(!memcmp(longer, blank, sizeof longer), "a scratch list that is too long stays", 0);
+    make(t, SENTIVOLUS_COMB2);
+    check(!raw_audition(t, SLOTS, &rendered) && rendered == FRAMES && t->scratch.cursor == 99 + FRAMES && t->bank.cursor == 99, "all faults mended", 0);
+}
+
 /* ---- the stack: what the calls leave untouched of a painted one */
 
 enum { STACK = 1 << 18, PAINT = 0x5A };
@@ -673,6 +804,7 @@ static void *sitting(void *code)
         sentivolus_bank_open(&t->setup, &t->bank);
         sentivolus_bank_set(&t->setup, &t->bank, 1, &p);
         sentivolus_bank_start(&t->setup, &t->bank, 1);
+        audition(t, SLOTS);
         render(t, SLOTS);
         sentivolus_bank_park(&t->setup, &t->bank, t->file, sentivolus_file_len(&t->setup));
     }
@@ -728,6 +860,8 @@ int main(void)
     peaks();
     forged_peaks();
     earlier_files();
+    auditions();
+    audition_refusals();
     stacks();
     printf("c: %d checks, %d failed\n", checks, failures);
     return failures != 0;

@@ -1,5 +1,5 @@
-//! ns a voice-sample (voice x channel x frame) of the proved library and of the Rust's scalar lane, in one run, best of several; and how fast banks are
-//! parked and restored.
+//! ns a voice-sample (voice x channel x frame) of the proved library and of the Rust's scalar lane, in one run, best of several; how fast banks are
+//! parked and restored; and what an audition costs beside its block.
 //! Built inside the assembled oracle, so that the Rust's private `extended::dispatch` is in reach.
 use super::*;
 use std::time::Instant;
@@ -8,6 +8,13 @@ unsafe extern "C" {
     fn sentivolus_block(code: u32, rate: f32, reference: f32, voices: usize, channels: usize, clean: bool,
         active: u32, sections: *const f32, gain: f32, cursor: *mut usize, targets: *const f32, targets_len: usize,
         records: *mut f32, records_len: usize, delay: *mut f32, delay_len: usize, frames: usize, pitch: *const f32, pitch_len: usize,
+        steered: bool, x: *const f32, x_len: usize, y: *const f32, y_len: usize, audio: *mut f32, audio_len: usize,
+        counts: *mut u32, counts_len: usize, rendered: *mut usize) -> u32;
+    fn sentivolus_audition(code: u32, rate: f32, reference: f32, voices: usize, channels: usize, clean: bool,
+        active: u32, sections: *const f32, gain: f32, cursor: usize, targets: *const f32, targets_len: usize,
+        records: *const f32, records_len: usize, delay: *const f32, delay_len: usize, scratch_cursor: *mut usize,
+        scratch_targets: *mut f32, scratch_targets_len: usize, scratch_records: *mut f32, scratch_records_len: usize,
+        scratch_delay: *mut f32, scratch_delay_len: usize, frames: usize, pitch: *const f32, pitch_len: usize,
         steered: bool, x: *const f32, x_len: usize, y: *const f32, y_len: usize, audio: *mut f32, audio_len: usize,
         counts: *mut u32, counts_len: usize, rendered: *mut usize) -> u32;
     fn sentivolus_open(code: u32, rate: f32, reference: f32, voices: usize, channels: usize, clean: bool, active: u32, sections: *const f32,
@@ -383,6 +390,70 @@ fn parking(millis: u128) {
     }
 }
 
+/// A block of the proved library's, on a copy in the lists of `scratch`.
+fn audition(e: &Engine, scratch: &mut Engine, sections: &[f32], pitch: &[f32], audio: &mut [f32], counts: &mut [u32], frames: usize) {
+    let s = e.setup;
+    let mut done = 0usize;
+    let none = std::ptr::NonNull::dangling().as_ptr();
+    let refused = unsafe {
+        sentivolus_audition(s.code, f(s.rate), f(s.reference), s.voices as usize, s.channels as usize, false,
+            e.table.active as u32, sections.as_ptr(), e.table.gain, e.cursor, e.t.as_ptr(), e.t.len(), e.r.as_ptr(), e.r.len(), e.d.as_ptr(), e.d.len(),
+            &mut scratch.cursor, scratch.t.as_mut_ptr(), scratch.t.len(), scratch.r.as_mut_ptr(), scratch.r.len(),
+            scratch.d.as_mut_ptr(), scratch.d.len(), frames, pitch.as_ptr(), pitch.len(), false, none, 0, none, 0,
+            audio.as_mut_ptr(), audio.len(), counts.as_mut_ptr(), counts.len(), &mut done)
+    };
+    assert_eq!((refused, done), (0, frames));
+}
+
+fn middle(mut times: Vec<f64>) -> f64 {
+    times.sort_by(f64::total_cmp);
+    times[times.len() / 2]
+}
+
+/// Middle microseconds of a block, of its audition and of a plain copy of the three lists, taking turns: the copy and the audition to the same scratch,
+/// then the block, which moves the bank on.
+fn measure_audition(c: &Case, millis: u128) -> [f64; 3] {
+    let sections = sections_of(&c.engine);
+    let mut bank = at_width(&c.engine, RECORD);
+    let mut scratch = bank.clone();
+    let (mut audio, mut heard) = (c.audio.clone(), c.audio.clone());
+    let (mut counts, mut heard_counts) = (counts_of(&bank), counts_of(&bank));
+    let mut times = [vec![], vec![], vec![]];
+    let begun = Instant::now();
+    while times[0].is_empty() || begun.elapsed().as_millis() < millis {
+        let mut time = |i: usize, call: &mut dyn FnMut()| {
+            let t = Instant::now();
+            call();
+            times[i].push(t.elapsed().as_nanos() as f64 / 1000.0);
+        };
+        audio.copy_from_slice(&c.audio);
+        heard.copy_from_slice(&c.audio);
+        time(2, &mut || {
+            for (to, from) in [(&mut scratch.t, &bank.t), (&mut scratch.r, &bank.r), (&mut scratch.d, &bank.d)] { to.copy_from_slice(from); }
+            std::hint::black_box(&mut scratch);
+        });
+        time(1, &mut || audition(&bank, &mut scratch, &sections, &c.pitch, &mut heard, &mut heard_counts, c.frames));
+        time(0, &mut || block(&mut bank, &sections, &c.pitch, &mut audio, &mut counts, c.frames));
+        assert!(heard == audio && heard_counts == counts && scratch.cursor == bank.cursor);
+        assert!(scratch.t == bank.t && scratch.r == bank.r && scratch.d == bank.d);
+    }
+    times.map(middle)
+}
+
+fn auditions(millis: u128) {
+    let of = |code: u32| case(code, 48000.0, 16, 2, 64, false);
+    let lists = at_width(&of(1).engine, RECORD);
+    let bytes = 4 * (lists.t.len() + lists.r.len() + lists.d.len());
+    println!("Auditions, 16 voices stereo, 64 frames, held pitch, rate 48000: us, middle of the runs. The lists to copy have {bytes} bytes\n");
+    println!("| code | block | audition | audition - block (share of the audition) | a plain copy of the lists |");
+    println!("|---|---|---|---|---|");
+    for code in 1..=12u32 {
+        let [block, audition, copy] = measure_audition(&of(code), millis);
+        let (more, kind) = (audition - block, KINDS[code as usize - 1]);
+        println!("| {code} {kind:?} | {block:.1} | {audition:.1} | {more:.1} ({:.2}) | {copy:.1} |", more / audition);
+    }
+}
+
 fn grid(millis: u128) {
     println!("| code | pitch | voices x channels / frames: ours, Rust (ratio) | | | |");
     println!("|---|---|---|---|---|---|");
@@ -448,6 +519,7 @@ pub fn main() {
     match std::env::args().nth(2).as_deref() {
         Some("silence") => return silence(millis),
         Some("park") => return parking(millis),
+        Some("audition") => return auditions(millis),
         _ => (),
     }
     #[cfg(before)]
@@ -466,4 +538,6 @@ fn every(millis: u128) {
     silence(millis);
     println!();
     parking(millis);
+    println!();
+    auditions(millis);
 }

@@ -7,8 +7,8 @@ use crate::words::{quoted, Lines, Words, Wrong};
 use sentivolus::{Setup, Table};
 
 /// The requests in force in the files that this replays, by the last one's number: a record has its peak, and a bank is parked in edition one, with two
-/// axes and no chord, whose offsets are then these.
-const STAGES: [&str; 1] = ["15"];
+/// axes and no chord, whose offsets are then these. C-16 changes no file.
+const STAGES: [&str; 2] = ["15", "16"];
 const OFFSETS: &str = "00000000*8";
 
 /// A list of more runs is answered by its sums.
@@ -105,7 +105,7 @@ pub fn replay(text: &str) -> Result<Replayed, Wrong> {
         out.copy(w.line);
         if w.line.is_empty() || w.line.starts_with('#') { continue; }
         match w.name() {
-            "stage" => { w.one_of("stage 15", &STAGES)?; w.end()?; }
+            "stage" => { w.one_of("stage 15 or 16", &STAGES)?; w.end()?; }
             "case" => case = Case::new(),
             "image" => case.bank = read_image(&mut w, &mut lines, &mut out)?,
             "file" => case.file = w.bits_list()?.into_iter().flat_map(u32::to_le_bytes).collect(),

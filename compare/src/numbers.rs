@@ -28,8 +28,11 @@ pub fn sums(words: &[u32]) -> String {
     format!(" {s1:08x} {s2:08x}")
 }
 
-/// A refusal's number, 1 to 13.
+/// A refusal's number, 1 to 14.
 pub fn number(r: Refusal) -> u32 { r.number() }
+
+/// What is wrong beside an answer, to be said in it.
+pub fn said(wrong: &[(bool, &str)]) -> String { wrong.iter().filter(|(is, _)| *is).map(|(_, what)| format!(" and {what}")).collect() }
 
 /// The answer of a refused call, with what is wrong beside it.
 pub fn refused(r: Refusal, wrong: &str) -> String { format!("= refused {}{wrong}\n", number(r)) }

@@ -15,7 +15,7 @@ pub struct Oracle {
 }
 
 /// The requests in force, by the last one's number: the program's STAGE. The files that it writes then are those that this replays.
-const STAGE: &str = "15";
+const STAGE: &str = "16";
 
 /// How many random inputs of a leaf `leafgen` is asked for, and the rows that it then writes at this stage.
 const INPUTS: &str = "240";
@@ -65,7 +65,7 @@ impl Oracle {
 
 fn first_word(line: &str) -> &str { line.split(' ').next().unwrap_or("") }
 
-/// As many scenarios as were asked for, the last with the dump that ends it. A stop just after a dump within the last scenario is not seen.
+/// As many scenarios as were asked for, the last with the dump that ends it. A stop just after a dump or an audition within the last scenario is not seen.
 fn whole_scenarios(text: &str, n: usize) -> Result<(), String> {
     let found = Lines::of(text).filter(|w| first_word(w.line) == "scenario").count();
     if found != n { return Err(format!("it has {found} scenarios instead of {n}")); }

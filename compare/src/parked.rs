@@ -1,6 +1,6 @@
 //! Parked files: a bank parked and a file restored, as replays do it, and the lines of a scenario file that change a file's bytes.
 
-use crate::numbers::{answers, canonical};
+use crate::numbers::{answers, canonical, said};
 use crate::words::{decimal, Words, Wrong};
 use sentivolus::{Refusal, Setup};
 
@@ -41,8 +41,6 @@ pub fn restore(file: &[u8], lengths: [usize; 3]) -> (Result<Restored, Refusal>, 
     ]);
     (given.map(|(setup, cursor)| Restored { setup, cursor, lists }), wrong)
 }
-
-fn said(wrong: &[(bool, &str)]) -> String { wrong.iter().filter(|(is, _)| *is).map(|(_, what)| format!(" and {what}")).collect() }
 
 /// Whether a file's setup was read as a restore read it, which also measures the lists.
 fn read_alike(alone: Result<(Setup, usize), Refusal>, restored: Result<(Setup, usize), Refusal>) -> bool {

@@ -8,7 +8,7 @@ use std::fmt;
 pub struct Replayed {
     pub text: String,
     pub answers: usize,
-    /// Voice-samples of accepted blocks.
+    /// Voice-samples of accepted blocks and auditions.
     pub samples: u64,
 }
 

@@ -61,16 +61,18 @@ fn scenarios(text: &str) -> Vec<String> {
 /// Whether ours are other answers than these. A text that cannot be read has none.
 fn differs(theirs: &str) -> bool { scenario::replay(theirs).is_ok_and(|ours| ours.text != theirs) }
 
-/// The calls of a scenario as units: a block with its four lists is one. A `counts` line is for the next block alone, wherever before it the line
-/// stands, and comes to that block's unit.
+/// The calls of a scenario as units: a block or an audition with its four lists is one. A `counts` line is for the next of them alone and a `scratch` line
+/// for the next audition, wherever before it the line stands, and comes to that one's unit.
 fn units(text: &str) -> Vec<String> {
     let mut out: Vec<String> = vec![];
-    let mut counts = String::new();
+    let (mut counts, mut scratch) = (String::new(), String::new());
     for w in Lines::of(text).filter(|w| !scenario::is_answer(w.line)) {
         let line = format!("{}\n", w.line);
         match w.line.split(' ').next() {
             Some("counts") => counts = line,
+            Some("scratch") => scratch = line,
             Some("block" | "blockh") => out.push(std::mem::take(&mut counts) + &line),
+            Some("audition") => out.push(std::mem::take(&mut counts) + &std::mem::take(&mut scratch) + &line),
             Some("p" | "x" | "y" | "a") => if let Some(unit) = out.last_mut() { *unit += &line; }
             _ => out.push(line),
         }

@@ -1,18 +1,20 @@
 //! Scenario files: calls on a bank with their answers. The calls are copied, the answers recomputed.
 
-use crate::numbers::{answers, canonical, refused, runs, sums};
+use crate::numbers::{answers, canonical, refused, runs, said, sums};
 use crate::parked;
 use crate::replay::Replayed;
 use crate::words::{quoted, Lines, Words, Wrong};
-use sentivolus::{Refusal, Setup, Table, VoiceParams};
+use sentivolus::{Refusal, Scratch, Setup, Table, VoiceParams};
 
-/// What each of a block's counts holds before.
+/// What each of a block's counts holds before, and each number of an audition's scratch.
 const BEFORE: u32 = 7;
+const SCRATCHED: f32 = 0.25;
 
 /// The most slots of a bank. A setup that asks for more is refused before counts are measured.
 const SLOTS: usize = 32;
 
-/// The lent lists, the setup handed to the next call, the cursor, the lengths that `lend` and `counts` lines ask for, and the current parked file.
+/// The lent lists, the setup handed to the next call, the cursor, the lengths that `lend`, `counts` and `scratch` lines ask for, and the current parked
+/// file.
 struct Bank {
     setup: Setup,
     targets: Vec<f32>,
@@ -21,6 +23,7 @@ struct Bank {
     cursor: usize,
     lend: Option<[usize; 3]>,
     counts: Option<usize>,
+    scratch: Option<[usize; 3]>,
     file: Vec<u8>,
 }
 
@@ -32,17 +35,17 @@ struct Lent {
     own: bool,
 }
 
-/// A block's first line; `digest` asks for sums instead of samples.
+/// A block's or an audition's lines: the first, and the lists p, x, y and a.
 struct Asked {
     frames: usize,
     steered: bool,
-    digest: bool,
+    lists: [Vec<f32>; 4],
 }
 
 impl Bank {
     fn new() -> Self {
         let setup = Setup { code: 0, rate: 0.0, reference: 0.0, voices: 0, channels: 0, clean: false, table: Table::default() };
-        Bank { setup, targets: vec![], records: vec![], delay: vec![], cursor: 0, lend: None, counts: None, file: vec![] }
+        Bank { setup, targets: vec![], records: vec![], delay: vec![], cursor: 0, lend: None, counts: None, scratch: None, file: vec![] }
     }
 
     fn take_setup(&mut self, w: &mut Words) -> Result<(), Wrong> {
@@ -101,25 +104,52 @@ impl Bank {
         Ok(kept(a))
     }
 
-    /// The answer to a block, and how many voice-samples it rendered.
-    fn block(&mut self, asked: &Asked, [p, x, y, a]: &[Vec<f32>; 4]) -> (String, u64) {
-        let mut audio = a.clone();
-        let slots = self.setup.voices.saturating_mul(self.setup.channels).min(SLOTS);
-        let mut counts = vec![BEFORE; self.counts.take().unwrap_or(slots)];
-        let mut l = self.lent();
+    /// Voices × channels, as far as a bank has so many.
+    fn slots(&self) -> usize { self.setup.voices.saturating_mul(self.setup.channels).min(SLOTS) }
+
+    /// The counts that the next block or audition is lent.
+    fn counted(&mut self) -> Vec<u32> { vec![BEFORE; self.counts.take().unwrap_or(self.slots())] }
+
+    /// The answer to a block, with sums instead of samples where `digest` asks for them, and how many voice-samples it rendered.
+    fn block(&mut self, asked: &Asked, digest: bool) -> (String, u64) {
+        let [p, x, y, a] = &asked.lists;
+        let (mut audio, mut counts, mut l) = (a.clone(), self.counted(), self.lent());
         let given = sentivolus::block_marked(&self.setup, self.cursor, &l.targets, &mut l.records, &mut l.delay,
             asked.frames, p, asked.steered, x, y, &mut audio, &mut counts);
         self.back(l);
         match given {
-            Err(r) => {
-                let heard = if audio.iter().zip(a).all(|(v, b)| v.to_bits() == b.to_bits()) { "" } else { " and the audio is changed" };
-                let counted = if counts.iter().all(|&n| n == BEFORE) { "" } else { " and the counts are changed" };
-                (refused(r, &format!("{heard}{counted}")), 0)
-            }
+            Err(r) => (refused(r, &said(&left(a, &audio, &counts))), 0),
             Ok((cursor, rendered)) => {
                 self.cursor = cursor;
-                let counted: String = counts.iter().map(|n| format!(" {n}")).collect();
-                (format!("= ok {cursor} {rendered}\n{}c{counted}\n", samples(asked.digest, &audio)), (rendered * slots) as u64)
+                (format!("= ok {cursor} {rendered}\n{}{}", samples(digest, &audio), counts_text(&counts)), (rendered * self.slots()) as u64)
+            }
+        }
+    }
+
+    /// The same of an audition. Without a `scratch` line the scratch is as long as the setup asks, or as the bank's lists where the setup is refused.
+    fn audition(&mut self, asked: &Asked) -> (String, u64) {
+        let [p, x, y, a] = &asked.lists;
+        let own = [self.targets.len(), self.records.len(), self.delay.len()];
+        let mut scratch = self.scratch.take().unwrap_or(self.setup.lengths().unwrap_or(own)).map(|n| vec![SCRATCHED; n]);
+        let [targets, records, delay] = &mut scratch;
+        let (mut audio, mut counts, l) = (a.clone(), self.counted(), self.lent());
+        let bits = |l: &Lent| [&l.targets[..], &l.records, &l.delay].concat().iter().map(|x| x.to_bits()).collect::<Vec<u32>>();
+        let before = bits(&l);
+        let given = sentivolus::audition_marked(&self.setup, self.cursor, &l.targets, &l.records, &l.delay,
+            asked.frames, p, asked.steered, x, y, Scratch { targets, records, delay }, &mut audio, &mut counts);
+        // lists lent to be read are taken to stay, unless they are seen anew
+        let changed = (bits(std::hint::black_box(&l)) != before, "the bank is changed");
+        self.back(l);
+        match given {
+            Err(r) => {
+                let scratched = scratch.iter().flatten().any(|x| x.to_bits() != SCRATCHED.to_bits());
+                let [heard, counted] = left(a, &audio, &counts);
+                (refused(r, &said(&[heard, counted, (scratched, "the scratch is changed"), changed])), 0)
+            }
+            Ok((cursor, rendered)) => {
+                let wrong = said(&[changed]);
+                let answer = format!("= ok {cursor} {rendered}{wrong}\n{}{}{}", samples(false, &audio), counts_text(&counts), lists_text(&scratch));
+                (answer, (rendered * self.slots()) as u64)
             }
         }
     }
@@ -156,7 +186,7 @@ impl Bank {
 
     fn dump(&self, w: &mut Words) -> Result<String, Wrong> {
         w.end()?;
-        Ok(format!("t{}\nr{}\nd{}\n", runs(&answers(&self.targets)), runs(&answers(&self.records)), runs(&answers(&self.delay))))
+        Ok(lists_text(&[&self.targets, &self.records, &self.delay]))
     }
 
     fn poke(&mut self, w: &mut Words) -> Result<(), Wrong> {
@@ -190,15 +220,25 @@ fn samples(digest: bool, audio: &[f32]) -> String {
     format!("h{}\n", sums(&words))
 }
 
-/// The rest of a block's first line and the four lines of lists after it.
-fn read_block(w: &mut Words, lines: &mut Lines, digest: bool, out: &mut Replayed) -> Result<(Asked, [Vec<f32>; 4]), Wrong> {
-    let asked = Asked { frames: w.whole()?, steered: w.mark()?, digest };
+fn counts_text(counts: &[u32]) -> String { format!("c{}\n", counts.iter().map(|n| format!(" {n}")).collect::<String>()) }
+
+/// Targets, records and delay.
+fn lists_text<L: AsRef<[f32]>>(lists: &[L; 3]) -> String {
+    ["t", "r", "d"].iter().zip(lists).map(|(letter, list)| format!("{letter}{}\n", runs(&answers(list.as_ref())))).collect()
+}
+
+/// What a refusal has to leave of the audio and the counts: whether it did not, and how that is said.
+fn left(a: &[f32], audio: &[f32], counts: &[u32]) -> [(bool, &'static str); 2] {
+    let heard = audio.iter().zip(a).any(|(v, b)| v.to_bits() != b.to_bits());
+    [(heard, "the audio is changed"), (counts.iter().any(|&n| n != BEFORE), "the counts are changed")]
+}
+
+/// The rest of a block's or an audition's first line and the four lines of lists after it.
+fn read_block(w: &mut Words, lines: &mut Lines, name: &str, out: &mut Replayed) -> Result<Asked, Wrong> {
+    let (frames, steered) = (w.whole()?, w.mark()?);
     w.end()?;
-    let mut lists = [vec![], vec![], vec![], vec![]];
-    for (list, letter) in lists.iter_mut().zip(["p", "x", "y", "a"]) {
-        *list = out.take(lines, &format!("the block's line {letter}"), letter)?.list()?;
-    }
-    Ok((asked, lists))
+    let mut line = |letter: &str| out.take(lines, &format!("the {name}'s line {letter}"), letter)?.list();
+    Ok(Asked { frames, steered, lists: [line("p")?, line("x")?, line("y")?, line("a")?] })
 }
 
 /// Lines of answers, by their first word.
@@ -219,6 +259,7 @@ pub fn replay(text: &str) -> Result<Replayed, Wrong> {
             "setup" => { bank.take_setup(&mut w)?; w.end()?; }
             "lend" => { bank.lend = Some(lengths(&mut w)?); w.end()?; }
             "counts" => { bank.counts = Some(w.length()?); w.end()?; }
+            "scratch" => { bank.scratch = Some(lengths(&mut w)?); w.end()?; }
             "cursor" => { bank.cursor = w.whole()?; w.end()?; }
             "open" => out.answer(&bank.open(&mut w)?),
             "set" => out.answer(&bank.set(&mut w)?),
@@ -227,9 +268,10 @@ pub fn replay(text: &str) -> Result<Replayed, Wrong> {
             "park" => out.answer(&bank.park(&mut w)?),
             "restore" => out.answer(&bank.restore(&mut w)?),
             name if parked::EDITS.contains(&name) => parked::edit(&mut bank.file, name, &mut w)?,
-            name @ ("block" | "blockh") => {
-                let (asked, lists) = read_block(&mut w, &mut lines, name == "blockh", &mut out)?;
-                let (answer, rendered) = bank.block(&asked, &lists);
+            name @ ("block" | "blockh" | "audition") => {
+                let audition = name == "audition";
+                let asked = read_block(&mut w, &mut lines, if audition { name } else { "block" }, &mut out)?;
+                let (answer, rendered) = if audition { bank.audition(&asked) } else { bank.block(&asked, name == "blockh") };
                 out.answer(&answer);
                 out.samples += rendered;
             }

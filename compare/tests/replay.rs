@@ -17,8 +17,15 @@ const RESTORED: &str = "= ok 0\ns 2 45fa0000 43dc0000 1 1 0 0 3f800000\n";
 const BLOCK: &str = "block 1 0\np 42700000\nx\ny\na 00000000\n";
 const ANSWER: &str = "= ok 0 1\no 00000000\nc 1\n";
 
+/// A comb opened, with its answer; a frame of it auditioned, what that answers, and the scratch afterwards.
+const COMB: &str = "open 9 45fa0000 43dc0000 1 1 0 10 31 1024\n= ok 0\n";
+const AUDITION: &str = "audition 1 0\np 43480000\nx\ny\na 3f800000\n";
+const HEARD: &str = "= ok 1 1\no 3f66e979\nc 2\n";
+const COPY: &str = "t 3dcccccd 00000000 3f800000 3eaaaaab 00000000 3f800000*2 00000000*3\n\
+    r 3dcccccd 00000000 3f800000 3eaaaaab 00000000 3f800000*2 00000000*23 3f66e979\nd 3f800000 00000000*1023\n";
+
 /// Lines after a scenario's first line, and what is said about them.
-const SCENARIOS: [(&str, &str); 50] = [
+const SCENARIOS: [(&str, &str); 59] = [
     ("nonsense", "line 2: expected a call, a preparation, an answer or a comment, found \"nonsense\""),
     ("a 3f800000", "line 2: expected a call, a preparation, an answer or a comment, found \"a\""),
     (" dump", "line 2: expected a call, a preparation, an answer or a comment, found \"\""),
@@ -44,6 +51,10 @@ const SCENARIOS: [(&str, &str); 50] = [
     ("counts -1", "line 2: expected a whole number, at most 16777216, found \"-1\""),
     ("counts 16777217", "line 2: expected a whole number, at most 16777216, found \"16777217\""),
     ("counts 1 1", "line 2: expected the line's end, found \"1\""),
+    ("scratch", "line 2: expected a whole number, at most 16777216, found the line's end"),
+    ("scratch 10 31", "line 2: expected a whole number, at most 16777216, found the line's end"),
+    ("scratch 10 31 16777217", "line 2: expected a whole number, at most 16777216, found \"16777217\""),
+    ("scratch 10 31 1024 0", "line 2: expected the line's end, found \"0\""),
     ("cursor 18446744073709551616", "line 2: expected a whole number below 2^64, found \"18446744073709551616\""),
     ("table 4294967296 3f800000", "line 2: expected a whole number that fits 32 bits, found \"4294967296\""),
     ("table 0 3f800000 00000000*161", "line 2: expected at most 160 numbers, found 161"),
@@ -59,6 +70,11 @@ const SCENARIOS: [(&str, &str); 50] = [
     ("block 1 0\np 3f800000\nx", "line 5: expected the block's line y, found the file's end"),
     ("block 1 0\np 3f800000\ny", "line 4: expected the block's line x, found \"y\""),
     ("blockh 1 0\np 3f800000 3f8", "line 3: expected eight lower-case hexadecimal digits, found \"3f8\""),
+    ("audition 1", "line 2: expected 0 or 1, found the line's end"),
+    ("audition 1 0 1", "line 2: expected the line's end, found \"1\""),
+    ("audition 1 0\np 3f800000\nx", "line 5: expected the audition's line y, found the file's end"),
+    ("audition 1 0\nt 3f800000", "line 3: expected the audition's line p, found \"t\""),
+    ("auditionh 1 0", "line 2: expected a call, a preparation, an answer or a comment, found \"auditionh\""),
     ("park", "line 2: expected a whole number, at most 16777216, found the line's end"),
     ("park 16777217", "line 2: expected a whole number, at most 16777216, found \"16777217\""),
     ("park 6656 2", "line 2: expected the line's end, found \"2\""),
@@ -101,9 +117,10 @@ const IMAGE: &str = "image 9 45fa0000 43dc0000 1 1 0 0 0 3f800000 2 0";
 const LISTS: &str = "n 00000000*160\nc 00000000*8\nt 3f000000*10\nr 00000000*31\nd 00000000*1024\n";
 
 /// Lines of a case on parked files, after its first line.
-const CASES: [(&str, &str); 19] = [
+const CASES: [(&str, &str); 20] = [
     ("nonsense", "line 2: expected a line of a case, an answer or a comment, found \"nonsense\""),
-    ("stage 14", "line 2: expected stage 15, found \"14\""),
+    ("stage 14", "line 2: expected stage 15 or 16, found \"14\""),
+    ("stage 17", "line 2: expected stage 15 or 16, found \"17\""),
     ("image 4294967296", "line 2: expected a whole number that fits 32 bits, found \"4294967296\""),
     ("image 9 45fa0000 43dc0000 1 1 0 0 0 3f800000", "line 2: expected two axes, found the line's end"),
     ("image 9 45fa0000 43dc0000 1 1 0 0 0 3f800000 3 0", "line 2: expected two axes, found \"3\""),
@@ -157,6 +174,7 @@ fn no_damage_ends_a_run() {
     let table = "table 1 3f800000 3f000000*20\npoke r 30 3f800000\n";
     let file = format!("{OPEN}{table}lend 9 31 1024\nset 0{}\ncounts 1\n{BLOCK}dump\n", " 3f800000".repeat(9));
     undamaged("run", &file);
+    undamaged("run", &format!("{OPEN}lend 10 31 1024\ncounts 1\nscratch 10 31 1024\n{AUDITION}"));
     undamaged("run", &format!("{OPEN}park 6656\nswap 0 12\ntwice 3\ndrop 3\nbyte 6655 7\nword 12 127 00000000\nmend 12\n{RESTORE}cut 512\n"));
     undamaged("file", &format!("stage 15\ncase 0\n{IMAGE}\n{LISTS}park 1 6656\ntake\nbytes 6144\n{RESTORE}file 00000000*128\n"));
 }
@@ -196,12 +214,45 @@ fn counts_are_lent_to_the_next_block() {
     }
 }
 
-/// Without the line a setup whose slots have no number of 64 bits is refused as any other.
+/// A `scratch` line is for the next audition, whatever stands between, and for no other; so is a `counts` line, where no block comes first. The lengths of
+/// the scratch are looked at last.
+#[test]
+fn scratches_are_lent_to_the_next_audition() {
+    let refused = |n: u32| format!("= refused {n}\n");
+    let accepted = || format!("{HEARD}{COPY}");
+    let block = AUDITION.replace("audition", "block");
+    for (lines, first) in [("", accepted()), ("scratch 10 31 1024\n", accepted()), ("scratch 9 31 1024\n", refused(14)), ("scratch 11 31 1024\n", refused(14)),
+        ("scratch 10 30 1024\n", refused(14)), ("scratch 10 32 1024\n", refused(14)), ("scratch 10 31 1023\n", refused(14)),
+        ("scratch 10 31 1025\n", refused(14)), ("scratch 0 0 0\n", refused(14)), ("scratch 10 31 16777216\n", refused(14)),
+        ("scratch 0 0 0\nscratch 10 31 1024\n", accepted()), ("scratch 10 31 1024\nscratch 0 0 0\n", refused(14)),
+        ("scratch 0 0 0\nlend 10 31 1024\nstart 0\ncursor 0\n", refused(14)), (&format!("scratch 0 0 0\n{block}cursor 0\nstart 0\n"), refused(14)),
+        (&format!("scratch 0 0 0\n{COMB}"), refused(14)), (&format!("scratch 0 0 0\nscenario b\n{COMB}"), accepted()),
+        ("counts 1\n", accepted()), ("counts 0\n", refused(10)), ("counts 2\nscratch 0 0 0\n", refused(10)), (&format!("counts 0\n{block}"), accepted()),
+        ("scratch 0 0 0\nlend 10 31 1023\n", refused(6)), ("scratch 0 0 0\ncounts 0\nlend 9 31 1024\n", refused(6))] {
+        let e = compare(&["run"], format!("{COMB}{lines}{AUDITION}{AUDITION}{block}").as_bytes());
+        assert_eq!((e.status, e.err.as_str()), (Some(0), ""), "{lines}");
+        assert!(e.out.ends_with(&format!("{AUDITION}{first}{AUDITION}{HEARD}{COPY}{block}{HEARD}")), "{lines}{}", e.out);
+    }
+}
+
+/// The bank's lists and its cursor are after an audition what they were, and the block that is committed then leaves what the scratch held.
+#[test]
+fn an_audition_leaves_the_bank() {
+    let opened = COPY.replace("00000000*23 3f66e979", "00000000*24").replace("d 3f800000 00000000*1023", "d 00000000*1024");
+    let block = AUDITION.replace("audition", "block");
+    let text = format!("{COMB}{AUDITION}{HEARD}{COPY}dump\n{opened}{AUDITION}{HEARD}{COPY}{block}{HEARD}dump\n{COPY}");
+    let e = compare(&["run"], text.as_bytes());
+    assert_eq!((e.status, e.out, e.err.as_str()), (Some(0), text, ""));
+}
+
+/// Without these lines a setup whose slots have no number of 64 bits is refused as any other.
 #[test]
 fn counts_of_wrong_setups() {
     for (slots, refusal) in [("18446744073709551615 2", 3), ("9223372036854775808 2", 3), ("2 18446744073709551615", 4), ("0 0", 3)] {
-        let e = compare(&["run"], format!("{OPEN}setup 2 45fa0000 43dc0000 {slots} 0\n{BLOCK}").as_bytes());
-        assert!(e.status == Some(0) && e.out.ends_with(&format!("\n= refused {refusal}\n")), "{slots}: {}{}", e.out, e.err);
+        for call in [BLOCK, AUDITION] {
+            let e = compare(&["run"], format!("{OPEN}setup 2 45fa0000 43dc0000 {slots} 0\n{call}").as_bytes());
+            assert!(e.status == Some(0) && e.out.ends_with(&format!("\n= refused {refusal}\n")), "{slots}: {}{}", e.out, e.err);
+        }
     }
 }
 
@@ -287,6 +338,10 @@ fn differences_are_shown() {
         (format!("{start}{BLOCK}= ok 0 1\no 00000000\nc 0\n"), "line 10\nfile: c 0\nours: c 1"),
         (format!("{start}{BLOCK}= ok 0 1\no 00000000\n"), "line 10\nfile: (no line)\nours: c 1"),
         (format!("{start}counts 2\n{BLOCK}= refused 10\nc 7 7\n"), "line 10\nfile: c 7 7\nours: (no line)"),
+        (format!("{COMB}{AUDITION}{}{COPY}", HEARD.replace("ok 1", "ok 0")), "line 8\nfile: = ok 0 1\nours: = ok 1 1"),
+        (format!("{COMB}{AUDITION}{HEARD}{}", COPY.replace("d 3f8", "d 3f0")), "line 13\nfile: d 3f000000 00000000*1023\nours: d 3f800000 00000000*1023"),
+        (format!("{COMB}{AUDITION}{HEARD}"), &format!("line 11\nfile: (no line)\nours: {targets}")),
+        (format!("{COMB}scratch 0 0 0\n{AUDITION}= refused 14\nt\nr\nd\n"), "line 10\nfile: t\nours: (no line)"),
         (format!("{start}dump\n{targets}\nr{record}*23\nd 00000000*1024\n"), &format!("line 5\nfile: r{record}*23\nours: r{record}*24")),
     ] {
         let e = check("differences", "run", &text);

@@ -19,7 +19,7 @@ fn cases() -> usize { parked().lines().filter(|l| l.starts_with("case ")).count(
 fn script_of(test: &str, [scenarios, leaves, parked]: [&str; 3], ending: &str, run: &str) -> String {
     let answers: String = [("gen", scenarios), ("leafgen", leaves), ("filesgen", parked)].iter()
         .map(|(name, text)| format!("{name}) cat '{}'; {ending} ;;\n", written(test, name, text).display())).collect();
-    let path = written(test, "oracle", &format!("#!/bin/sh\n[ \"$STAGE\" = 15 ] || exit 3\ncase $1 in\n{answers}run) {run} ;;\nesac\n"));
+    let path = written(test, "oracle", &format!("#!/bin/sh\n[ \"$STAGE\" = 16 ] || exit 3\ncase $1 in\n{answers}run) {run} ;;\nesac\n"));
     std::fs::set_permissions(&path, std::fs::Permissions::from_mode(0o755)).expect("the script is a program");
     path.display().to_string()
 }
@@ -87,7 +87,7 @@ fn scenarios_cut_short_fail() {
     let middle = &whole[..whole[..whole.len() / 2].rfind(' ').expect("a blank")];
     fails_with("cut_in_a_line", middle, &leaves(), "the last line has no newline");
     fails_with("cut_after_a_line", before_last(middle, "\n"), &leaves(), &format!("scenarios instead of {}", asked()));
-    fails_with("cut_after_a_call", before_last(&whole, "\ndump\n"), &leaves(), "instead of a dump");
+    fails_with("cut_after_a_call", before_last(&whole, "\n= "), &leaves(), "instead of a dump");
     fails_with("cut_after_a_scenario", before_last(&whole, "\nscenario "), &leaves(), &format!("{} scenarios instead of {}", asked() - 1, asked()));
     fails_with("cut_newline", whole.trim_end(), &leaves(), "the last line has no newline");
 }
@@ -148,6 +148,24 @@ fn counts_shrink_with_their_block() {
     for (test, from, to, small) in [
         ("shrunk_count", "c 1", "c 9", format!("{block}= ok 0 1\no 00000000\nc 9\n")),
         ("shrunk_refusal", "= refused 10", "= refused 9", format!("counts 0\n{block}= refused 9\n")),
+    ] {
+        let spoilt = compare(&["run"], calls.as_bytes()).out.replace(&format!("\n{from}\n"), &format!("\n{to}\n"));
+        let answering = format!("'{}' run | sed 's/^{from}$/{to}/'", env!("CARGO_BIN_EXE_compare"));
+        let oracle = script(test, &spoilt, &leaves(), "exit 0", &answering);
+        fails(&scale_of(&oracle, 1), &format!("with the Rust's answers:\nscenario a\n{open}= ok 0\n{small}and with ours:\n"));
+    }
+}
+
+/// A `scratch` line goes with its audition, and a `counts` line before it.
+#[test]
+fn scratches_shrink_with_their_audition() {
+    let (open, block) = ("open 2 45fa0000 43dc0000 1 1 0 10 31 1024\n", "block 1 0\np 42700000\nx\ny\na 00000000\n");
+    let audition = block.replace("block", "audition");
+    let (short, right) = (format!("scratch 9 31 1024\nstart 0\n{block}{audition}"), format!("scratch 10 31 1024\ncursor 5\n{audition}"));
+    let calls = format!("scenario a\n{open}{short}counts 2\n{right}{audition}{block}dump\n");
+    for (test, from, to, small) in [
+        ("shrunk_scratch", "= refused 14", "= refused 13", format!("scratch 9 31 1024\n{audition}= refused 13\n")),
+        ("shrunk_audition", "= refused 10", "= refused 9", format!("counts 2\nscratch 10 31 1024\n{audition}= refused 9\n")),
     ] {
         let spoilt = compare(&["run"], calls.as_bytes()).out.replace(&format!("\n{from}\n"), &format!("\n{to}\n"));
         let answering = format!("'{}' run | sed 's/^{from}$/{to}/'", env!("CARGO_BIN_EXE_compare"));

@@ -1,5 +1,6 @@
 //! Opens a bank of four voices in stereo, renders a second of a chord through a sweeping transistor ladder, and prints what it did: the same
-//! as `c/example.c`, to the bit. Half-way the bank is parked and goes on as restored, which changes no bit of the sound.
+//! as `c/example.c`, to the bit. Half-way the bank is parked and goes on as restored, which changes no bit of the sound. At the end a block is
+//! auditioned, which leaves the bank.
 
 use sentivolus::{version, Bank, Block, Refusal, Setup, Structure, VoiceParams};
 
@@ -67,11 +68,13 @@ fn main() -> Result<(), Refusal> {
     println!("rendered {BLOCKS} blocks of {BLOCK} frames: peaks {left:.4} left, {right:.4} right, checksum {sum:08x}");
     let peaks = |channel| (0..VOICES).filter_map(|v| bank.peak(channel, v)).map(|p| format!(" {p:.4}")).collect::<String>();
     println!("peaks of the voices since they started: left{}, right{}", peaks(0), peaks(1));
-    // The sweep ends at pitch 117 and the ceiling is near 137.9. At pitch 138 the offset of 2 puts the right channel over it, the left one below.
+    // The sweep ends at pitch 117 and the ceiling is near 137.9. At pitch 138 the offset of 2 puts the right channel over it, the left one below: heard on
+    // a copy of the bank, before such a block is committed.
     pitch.fill(138.0);
-    bank.block(Block { frames: BLOCK, pitch: &pitch, steering: None }, &mut audio)?;
-    let (left, right) = (over(&bank, 0), over(&bank, 1));
-    println!("over the pitch ceiling: {swept} times in the sweep; in a block at pitch 138 {left} times left, {right} right");
+    let mut scratch = bank.clone();
+    bank.audition(Block { frames: BLOCK, pitch: &pitch, steering: None }, &mut scratch, &mut audio)?;
+    let (left, right) = (over(&scratch, 0), over(&scratch, 1));
+    println!("over the pitch ceiling: {swept} times in the sweep; auditioned at pitch 138, {left} times left, {right} right");
     let refused = bank.block(Block { frames: 4097, pitch: &pitch, steering: None }, &mut audio);
     println!("a block of 4097 frames is refused: {}", refused.map_or_else(Refusal::word, |_| "no"));
     Ok(())

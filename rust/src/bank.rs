@@ -1,6 +1,9 @@
 //! A bank that owns its lists.
 
-use crate::{calls, parking, Block, Refusal, Setup, VoiceParams, PEAK, RECORD};
+use crate::{calls, parking, Block, Refusal, Scratch, Setup, VoiceParams, PEAK, RECORD};
+
+/// The most slots of a bank.
+const SLOTS: usize = 32;
 
 /// A bank of voices with its setup, its lists and its cursor. Only [`Bank::open`], [`Bank::clone`], [`Bank::park`] and [`Bank::restore`] allocate.
 ///
@@ -50,6 +53,36 @@ impl Bank {
         let Bank { setup, targets, records, delay, cursor, counts } = self;
         let (next, rendered) = calls::block(setup, *cursor, targets, records, delay, b, audio, counts)?;
         *cursor = next;
+        Ok(rendered)
+    }
+
+    /// Auditions a block: audio becomes what [`Bank::block`] would make of it, and the bank stays as it is. `scratch`, another bank such as a clone, becomes
+    /// the bank that the block would leave, with its setup, cursor and counts: to go on with it is to have committed the block. It may hold anything, but
+    /// lists of another length are [`Refusal::Scratch`], after all checks of a block. Answers the frames rendered.
+    ///
+    /// ```
+    /// use sentivolus::{Bank, Block, Refusal, Setup, Structure};
+    /// # fn main() -> Result<(), Refusal> {
+    /// let mut bank = Bank::open(Setup::new(Structure::Comb2, 48000.0, 1, 1))?;
+    /// let mut scratch = bank.clone();
+    /// let mut low = [0.5; 64];
+    /// bank.audition(Block { frames: 64, pitch: &[45.0; 64], steering: None }, &mut scratch, &mut low)?;
+    /// let mut high = [0.5; 64];
+    /// bank.audition(Block { frames: 64, pitch: &[81.0; 64], steering: None }, &mut scratch, &mut high)?;
+    /// assert_eq!((bank.cursor(), scratch.cursor()), (0, 64));
+    /// std::mem::swap(&mut bank, &mut scratch); // the second is committed
+    /// assert_eq!(bank.cursor(), 64);
+    /// # Ok(())
+    /// # }
+    /// ```
+    pub fn audition(&self, b: Block<'_>, scratch: &mut Bank, audio: &mut [f32]) -> Result<usize, Refusal> {
+        // Counts of another length would be a `Buffer`, before `Scratch`: those of the scratch are written once it is known to be as long.
+        let mut counts = [0; SLOTS];
+        let counts = &mut counts[..self.counts.len()];
+        let lists = Scratch { targets: &mut scratch.targets, records: &mut scratch.records, delay: &mut scratch.delay };
+        let (next, rendered) = calls::audition(&self.setup, self.cursor, &self.targets, &self.records, &self.delay, b, lists, audio, counts)?;
+        (scratch.setup, scratch.cursor) = (self.setup, next);
+        scratch.counts.copy_from_slice(counts);
         Ok(rendered)
     }
 
@@ -137,7 +170,7 @@ impl Bank {
     }
 
     /// How often each slot, channel × voices + voice, was over the pitch ceiling in the last accepted block, as [`block`](crate::block) counts; all 0
-    /// before the first and after [`Bank::restore`].
+    /// before the first and after [`Bank::restore`]. The counts of an audition are the scratch's.
     ///
     /// ```
     /// use sentivolus::{Bank, Block, Setup, Structure, VoiceParams};

@@ -142,6 +142,17 @@ pub struct Block<'a> {
     pub steering: Option<(&'a [f32], &'a [f32])>,
 }
 
+/// The lists that an audition is made in, each as long as the bank's and whatever it holds.
+#[derive(Debug)]
+pub struct Scratch<'a> {
+    /// The copy's targets: the bank's.
+    pub targets: &'a mut [f32],
+    /// The copy's records.
+    pub records: &'a mut [f32],
+    /// The copy's rings.
+    pub delay: &'a mut [f32],
+}
+
 /// The archive's version: 10,000 × major + 100 × minor + patch.
 pub fn version() -> u32 {
     // SAFETY: takes nothing.
@@ -203,5 +214,46 @@ pub fn block_marked(s: &Setup, cursor: usize, targets: &[f32], records: &mut [f3
     answer(call!(sentivolus_block, s, &mut next, targets.as_ptr(), targets.len(), records.as_mut_ptr(), records.len(), delay.as_mut_ptr(), delay.len(),
         frames, pitch.as_ptr(), pitch.len(), steered, x.as_ptr(), x.len(), y.as_ptr(), y.len(), audio.as_mut_ptr(), audio.len(),
         counts.as_mut_ptr(), counts.len(), &mut rendered))
+        .map(|()| (next, rendered))
+}
+
+/// Auditions a block: [`block`] on a copy of the bank, made in the scratch. Audio, counts and answer are the block's, the cursor that is answered is the
+/// copy's, and the scratch holds the copy as the block leaves it. The bank's lists stay, and its cursor is the caller's to keep. After all checks of a
+/// block a scratch list of a wrong length is [`Refusal::Scratch`].
+///
+/// ```
+/// use sentivolus::{audition, block, open, Block, Scratch, Setup, Structure};
+/// # fn main() -> Result<(), sentivolus::Refusal> {
+/// let setup = Setup::new(Structure::Comb2, 48000.0, 1, 1);
+/// let [mut targets, mut records, mut delay] = setup.lengths()?.map(|n| vec![0.0; n]);
+/// let [mut t, mut r, mut d] = setup.lengths()?.map(|n| vec![0.0; n]);
+/// let cursor = open(&setup, &mut targets, &mut records, &mut delay)?;
+/// let b = Block { frames: 2, pitch: &[57.0; 2], steering: None };
+/// let (mut heard, mut audio, mut counts) = ([0.5, 0.25], [0.5, 0.25], [0]);
+/// let scratch = Scratch { targets: &mut t, records: &mut r, delay: &mut d };
+/// let answer = audition(&setup, cursor, &targets, &records, &delay, b, scratch, &mut heard, &mut counts)?;
+/// // the same as committed
+/// assert_eq!(block(&setup, cursor, &targets, &mut records, &mut delay, b, &mut audio, &mut counts)?, answer);
+/// assert_eq!((heard, t, r, d), (audio, targets, records, delay));
+/// # Ok(())
+/// # }
+/// ```
+#[allow(clippy::too_many_arguments)]
+pub fn audition(s: &Setup, cursor: usize, targets: &[f32], records: &[f32], delay: &[f32], b: Block<'_>, scratch: Scratch<'_>,
+    audio: &mut [f32], counts: &mut [u32]) -> Result<(usize, usize), Refusal> {
+    let (x, y) = b.steering.unwrap_or((&[], &[]));
+    audition_marked(s, cursor, targets, records, delay, b.frames, b.pitch, b.steering.is_some(), x, y, scratch, audio, counts)
+}
+
+/// [`audition`] with the steering as [`block_marked`] takes it.
+#[allow(clippy::too_many_arguments)]
+pub fn audition_marked(s: &Setup, cursor: usize, targets: &[f32], records: &[f32], delay: &[f32], frames: usize, pitch: &[f32], steered: bool,
+    x: &[f32], y: &[f32], scratch: Scratch<'_>, audio: &mut [f32], counts: &mut [u32]) -> Result<(usize, usize), Refusal> {
+    let (mut next, mut rendered) = (cursor, 0usize);
+    let Scratch { targets: t, records: r, delay: d } = scratch;
+    // SAFETY: each pointer and length are of one slice, and those that are written, with `next` and `rendered`, overlap no other.
+    answer(call!(sentivolus_audition, s, cursor, targets.as_ptr(), targets.len(), records.as_ptr(), records.len(), delay.as_ptr(), delay.len(),
+        &mut next, t.as_mut_ptr(), t.len(), r.as_mut_ptr(), r.len(), d.as_mut_ptr(), d.len(), frames, pitch.as_ptr(), pitch.len(), steered,
+        x.as_ptr(), x.len(), y.as_ptr(), y.len(), audio.as_mut_ptr(), audio.len(), counts.as_mut_ptr(), counts.len(), &mut rendered))
         .map(|()| (next, rendered))
 }

@@ -20,6 +20,13 @@ extern "C" {
         records: *mut f32, records_len: usize, delay: *mut f32, delay_len: usize, frames: usize, pitch: *const f32, pitch_len: usize,
         steered: bool, x: *const f32, x_len: usize, y: *const f32, y_len: usize, audio: *mut f32, audio_len: usize,
         counts: *mut u32, counts_len: usize, rendered: *mut usize) -> u32;
+    pub fn sentivolus_audition(code: u32, rate: f32, reference: f32, voices: usize, channels: usize, clean: bool,
+        active: u32, sections: *const [f32; 160], gain: f32, cursor: usize, targets: *const f32, targets_len: usize,
+        records: *const f32, records_len: usize, delay: *const f32, delay_len: usize, scratch_cursor: *mut usize,
+        scratch_targets: *mut f32, scratch_targets_len: usize, scratch_records: *mut f32, scratch_records_len: usize,
+        scratch_delay: *mut f32, scratch_delay_len: usize, frames: usize, pitch: *const f32, pitch_len: usize,
+        steered: bool, x: *const f32, x_len: usize, y: *const f32, y_len: usize, audio: *mut f32, audio_len: usize,
+        counts: *mut u32, counts_len: usize, rendered: *mut usize) -> u32;
     pub fn sentivolus_park_len(code: u32, rate: f32, reference: f32, voices: usize, channels: usize, clean: bool,
         active: u32, sections: *const [f32; 160], gain: f32) -> usize;
     pub fn sentivolus_park(code: u32, rate: f32, reference: f32, voices: usize, channels: usize, clean: bool,

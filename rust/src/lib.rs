@@ -1,9 +1,10 @@
 //! Safe calls into the proved voice filter bank (x86-64 Linux).
 //!
-//! [`Bank`] owns its lists; [`open`], [`set`], [`start`] and [`block`] work on lists that the caller lends. [`park`] writes a bank to the bytes of a file
-//! and [`restore`] reads it back. All answer a [`Refusal`] where the arguments are wrong, which changes nothing. Every call that computes runs with
-//! MXCSR at its default, rounding to nearest with subnormals, whatever the thread has set, and gives the thread's back: the bits are the same where an
-//! audio host flushes subnormals. Nothing is kept between calls, so any thread may make them; the free calls allocate nothing.
+//! [`Bank`] owns its lists; [`open`], [`set`], [`start`] and [`block`] work on lists that the caller lends. [`audition`] renders a block on a copy,
+//! before it is committed. [`park`] writes a bank to the bytes of a file and [`restore`] reads it back. All answer a [`Refusal`] where the arguments are
+//! wrong, which changes nothing. Every call that computes runs with MXCSR at its default, rounding to nearest with subnormals, whatever the thread has
+//! set, and gives the thread's back: the bits are the same where an audio host flushes subnormals. Nothing is kept between calls, so any thread may make
+//! them; the free calls allocate nothing.
 //!
 //! All NaNs count as one value: the sign and payload of a NaN in an answer are free.
 //!
@@ -32,7 +33,8 @@ mod parking;
 mod refusal;
 
 pub use bank::Bank;
-pub use calls::{block, block_marked, open, set, start, version, Block, Setup, Structure, VoiceParams, PEAK, RECORD};
+pub use calls::{audition, audition_marked, block, block_marked, open, set, start, version};
+pub use calls::{Block, Scratch, Setup, Structure, VoiceParams, PEAK, RECORD};
 pub use design::{point, section, table, Design, Point, PointKind, Table};
 pub use leaves::{asym, exp2, gain, hermite, log2, max, min, over, ratio_of, read, ring_len};
 pub use leaves::{root, saturation_gain, soft_clip, svf, tan, targets_of};

@@ -33,10 +33,12 @@ pub enum Refusal {
     Damaged = 12,
     /// A block of the parked file is missing, doubled or unknown, or its word for clean is above 1.
     Blocks = 13,
+    /// Targets, records or delay of an audition's scratch are not exactly as long as the setup asks.
+    Scratch = 14,
 }
 
 /// Each refusal with its word and its condition.
-const ALL: [(Refusal, &str, &str); 13] = [
+const ALL: [(Refusal, &str, &str); 14] = [
     (Refusal::Rate, "rate", "rate NaN, below 8,000 or above 384,000"),
     (Refusal::Tuning, "tuning", "reference NaN, below 1 or above 20,000"),
     (Refusal::Polyphony, "polyphony", "voices not 1 to 16"),
@@ -50,10 +52,11 @@ const ALL: [(Refusal, &str, &str); 13] = [
     (Refusal::Point, "point", "point number above 7"),
     (Refusal::Damaged, "damaged", "file's length no multiple of 512, or a block's sum wrong"),
     (Refusal::Blocks, "blocks", "block missing, doubled or unknown, or clean above 1"),
+    (Refusal::Scratch, "scratch", "targets, records or delay of a scratch of a wrong length"),
 ];
 
 impl Refusal {
-    /// The refusal of a number, 1 to 13.
+    /// The refusal of a number, 1 to 14.
     pub fn from_number(number: u32) -> Option<Refusal> {
         ALL.iter().map(|row| row.0).find(|r| r.number() == number)
     }

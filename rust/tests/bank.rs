@@ -106,13 +106,13 @@ fn section_refuses_a_ninth_point() {
 
 #[test]
 fn refusals_have_numbers_and_words() {
-    for n in 1..=13 {
+    for n in 1..=14 {
         assert_eq!(Refusal::from_number(n).unwrap().number(), n);
     }
-    assert_eq!((Refusal::from_number(0), Refusal::from_number(14)), (None, None));
+    assert_eq!((Refusal::from_number(0), Refusal::from_number(15)), (None, None));
     let error: Box<dyn std::error::Error> = Box::new(Refusal::Polyphony);
     assert_eq!((error.to_string(), Refusal::Knob.word()), ("refused 3, polyphony: voices not 1 to 16".into(), "knob"));
-    assert_eq!([Refusal::Damaged.word(), Refusal::Blocks.word()], ["damaged", "blocks"]);
+    assert_eq!([Refusal::Damaged.word(), Refusal::Blocks.word(), Refusal::Scratch.word()], ["damaged", "blocks", "scratch"]);
 }
 
 #[test]
@@ -120,7 +120,7 @@ fn defaults_are_the_archives() {
     assert_eq!(VoiceParams::default(), VoiceParams::from_array([0.1, 0.0, 0.0, 0.0, 0.0, 1.0, 1.0, 0.0, 0.0]));
     let bank = Bank::open(setup()).unwrap();
     assert_eq!(bank.targets(), targets_of(&VoiceParams::default()));
-    assert_eq!(version(), 700);
+    assert_eq!(version(), 800);
 }
 
 #[test]
@@ -266,6 +266,129 @@ fn a_lone_voice_has_its_peaks_in_company() {
     let bits = |p: Option<f32>| p.unwrap().to_bits();
     assert_eq!([0, 1].map(|c| bits(alone.peak(c, 0))), [0, 1].map(|c| bits(company.peak(c, 1))));
     assert_ne!(bits(alone.peak(0, 0)), bits(alone.peak(1, 0)));
+}
+
+/// The bits of all that a bank has.
+fn image(bank: &Bank) -> (Setup, Vec<u32>, usize, Vec<u32>) {
+    let lists = [bank.targets(), bank.records(), bank.delay()].concat();
+    (*bank.setup(), lists.iter().map(|x| x.to_bits()).collect(), bank.cursor(), bank.counts().to_vec())
+}
+
+/// A bank of two voices in stereo that has rendered a block, with a table of four sections, the reference such that a pitch of 80 is over the ceiling.
+fn played(code: u32) -> Bank {
+    let mut design = Design::default();
+    for i in 0..16 {
+        design.put(i / 4, i % 4, Point { kind: PointKind::Bell(6.0), frequency: 110.0 * (1 + i % 4 + i / 4) as f32, q: 2.0 });
+    }
+    let table = Table { gain: 0.75, ..table(&design) };
+    let s = Setup { code, reference: 9000.0, clean: code > 6, table, ..Setup::new(Structure::K35, 8000.0, 2, 2) };
+    let mut bank = Bank::open(s).unwrap();
+    bank.set(1, &VoiceParams { resonance: 0.6, drive: 0.5, character: 0.3, stereo_offset: 3.0, mix: 0.75, ..VoiceParams::default() }).unwrap();
+    bank.block(Block { frames: 50, pitch: &[40.0; 100], steering: None }, &mut noise(200)).unwrap();
+    bank
+}
+
+/// An audition is the block on a copy: the bank stays, the scratch is the bank that the block leaves, whatever it was, and goes on as that.
+#[test]
+fn auditions_of_every_structure() {
+    let pitch: Vec<f32> = (0..128).map(|i| 20.0 + (i % 67) as f32).collect();
+    let (x, y): (Vec<f32>, Vec<f32>) = (0..128).map(|i| (0.125 * (i % 7) as f32, 0.25 * (i % 3) as f32)).unzip();
+    for code in 1..=12 {
+        for steering in [None, Some((&x[..], &y[..]))] {
+            let mut bank = played(code);
+            let before = image(&bank);
+            let b = Block { frames: 64, pitch: &pitch, steering };
+            let mut scratch = Bank::open(Setup { code: 13 - code, ..Setup::new(Structure::K35, 8000.0, 2, 2) }).unwrap();
+            let (mut heard, mut audio) = (noise(256), noise(256));
+            assert_eq!(bank.audition(b, &mut scratch, &mut heard), Ok(64), "code {code}");
+            assert!(image(&bank) == before, "code {code}: the bank stays");
+            assert_eq!(bank.block(b, &mut audio), Ok(64));
+            assert!(heard == audio && heard != noise(256), "code {code}: the audio");
+            assert!(image(&scratch) == image(&bank), "code {code}: the scratch");
+            assert!(bank.counts()[0] > 0, "code {code}: something is counted");
+            assert_eq!(bank.cursor(), if code == 9 { 114 } else { 0 });
+            // the block is committed by taking the scratch
+            let mut other = Bank::open(*bank.setup()).unwrap();
+            scratch.audition(b, &mut other, &mut heard).unwrap();
+            std::mem::swap(&mut scratch, &mut other);
+            bank.block(b, &mut audio).unwrap();
+            assert!(heard == audio && image(&scratch) == image(&bank), "code {code}: the next block");
+        }
+    }
+}
+
+/// The free call answers the copy's cursor, which wraps where the structure has a ring; numbers of any bits come to the scratch.
+#[test]
+fn an_audition_on_lent_lists() {
+    for (structure, next) in [(Structure::Comb2, 0), (Structure::K35, usize::MAX)] {
+        let s = Setup::new(structure, 48000.0, 1, 2);
+        let (mut t, mut r, mut d) = lists(&s);
+        open(&s, &mut t, &mut r, &mut d).unwrap();
+        (t[3], r[12], d[5], d[6]) = (f32::NAN, f32::from_bits(1), -0.0, f32::INFINITY);
+        let (mut t2, mut r2, mut d2) = lists(&s);
+        let b = Block { frames: 1, pitch: &[69.0], steering: Some((&[0.0], &[0.0])) };
+        let (mut heard, mut counts) = ([1.0, -1.0], [7; 2]);
+        let scratch = Scratch { targets: &mut t2, records: &mut r2, delay: &mut d2 };
+        assert_eq!(audition(&s, usize::MAX, &t, &r, &d, b, scratch, &mut heard, &mut counts), Ok((next, 1)));
+        let (mut audio, mut committed) = ([1.0, -1.0], [7; 2]);
+        assert_eq!(block(&s, usize::MAX, &t, &mut r, &mut d, b, &mut audio, &mut committed), Ok((next, 1)));
+        let bits = |list: &[f32]| list.iter().map(|x| if x.is_nan() { 0x7fc0_0000 } else { x.to_bits() }).collect::<Vec<u32>>();
+        assert_eq!((bits(&heard), counts), (bits(&audio), committed));
+        assert!(bits(&t2) == bits(&t) && bits(&r2) == bits(&r) && bits(&d2) == bits(&d));
+    }
+}
+
+/// Every refusal of a block comes before that of the scratch, and none changes audio, counts or scratch.
+#[test]
+fn each_refusal_of_an_audition() {
+    let good = setup();
+    let (mut t, mut r, mut d) = lists(&good);
+    open(&good, &mut t, &mut r, &mut d).unwrap();
+    let refused = |refusal: Refusal, s: Setup, records: usize, frames: usize, [pitch, x, y, slots]: [usize; 4], steered: bool, wrong: [usize; 3]| {
+        let (l, mut audio, mut counts) = ([200.0f32; 2], [0.25; 2], [7; 2]);
+        let [mut t2, mut r2, mut d2] = wrong.map(|n| vec![0.125; n]);
+        let scratch = Scratch { targets: &mut t2, records: &mut r2, delay: &mut d2 };
+        let a = audition_marked(&s, 9, &t, &r[..records], &d, frames, &l[..pitch], steered, &l[..x], &l[..y], scratch, &mut audio, &mut counts[..slots]);
+        assert_eq!(a, Err(refusal));
+        assert!((audio, counts) == ([0.25; 2], [7; 2]) && t2.iter().chain(&r2).chain(&d2).all(|&x| x == 0.125), "{refusal}");
+    };
+    let [nt, nr, nd] = good.lengths().unwrap();
+    for lengths in [[nt - 1, nr, nd], [nt + 1, nr, nd], [0, nr, nd], [nt, nr - 1, nd], [nt, nr + 1, nd], [nt, 0, nd], [nt, nr, nd - 1], [nt, nr, nd + 1],
+        [nt, nr, 0], [0; 3]] {
+        refused(Refusal::Rate, Setup { rate: f32::NAN, code: 13, ..good }, RECORD, 2, [2, 0, 0, 1], false, lengths);
+        refused(Refusal::Tuning, Setup { reference: 0.0, ..good }, RECORD, 2, [2, 0, 0, 1], false, lengths);
+        refused(Refusal::Polyphony, Setup { voices: usize::MAX, ..good }, RECORD, 2, [2, 0, 0, 1], false, lengths);
+        refused(Refusal::Layout, Setup { channels: 3, ..good }, RECORD, 2, [2, 0, 0, 1], false, lengths);
+        refused(Refusal::Structure, Setup { code: 0, ..good }, RECORD - 1, 2, [2, 0, 0, 1], false, lengths);
+        refused(Refusal::Store, good, RECORD - 1, 4097, [2, 0, 0, 1], false, lengths);
+        refused(Refusal::Frames, good, RECORD, 0, [2, 0, 0, 1], false, lengths);
+        refused(Refusal::Frames, good, RECORD, usize::MAX, [1, 0, 0, 0], false, lengths);
+        refused(Refusal::Buffer, good, RECORD, 2, [1, 0, 0, 1], false, lengths);
+        refused(Refusal::Buffer, good, RECORD, 2, [2, 1, 2, 1], true, lengths);
+        refused(Refusal::Buffer, good, RECORD, 2, [2, 2, 1, 1], true, lengths);
+        refused(Refusal::Buffer, good, RECORD, 2, [2, 2, 2, 1], false, lengths);
+        refused(Refusal::Buffer, good, RECORD, 1, [1, 0, 0, 1], false, lengths);
+        refused(Refusal::Buffer, good, RECORD, 2, [2, 0, 0, 0], false, lengths);
+        refused(Refusal::Buffer, good, RECORD, 2, [2, 0, 0, 2], false, lengths);
+        refused(Refusal::Scratch, good, RECORD, 2, [2, 0, 0, 1], false, lengths);
+        refused(Refusal::Scratch, good, RECORD, 2, [2, 2, 2, 1], true, lengths);
+    }
+    refused(Refusal::Buffer, good, RECORD, 2, [2, 0, 0, 2], false, [nt, nr, nd]);
+}
+
+/// A scratch with lists of another length stays as it was: of more or fewer slots, whose counts are not measured, or of another rate.
+#[test]
+fn a_scratch_of_another_length() {
+    let bank = played(9);
+    let b = Block { frames: 1, pitch: &[60.0; 2], steering: None };
+    for s in [Setup { voices: 1, ..*bank.setup() }, Setup { voices: 4, channels: 1, ..*bank.setup() }, Setup { voices: 16, ..*bank.setup() },
+        Setup { channels: 1, ..*bank.setup() }, Setup { rate: 48000.0, ..*bank.setup() }] {
+        let mut scratch = Bank::open(s).unwrap();
+        let (before, mut audio) = (image(&scratch), [0.5; 4]);
+        assert_eq!(bank.audition(b, &mut scratch, &mut audio), Err(Refusal::Scratch));
+        assert_eq!(bank.audition(Block { frames: 2, ..b }, &mut scratch, &mut audio), Err(Refusal::Buffer));
+        assert!(image(&scratch) == before && audio == [0.5; 4]);
+    }
 }
 
 #[test]

@@ -42,15 +42,18 @@ fn sitting(code: u32, mode: u32) -> Vec<u32> {
     let design = bells();
     let p = VoiceParams::from_array([0.7, 0.4, 0.3, 0.35, 1.7, 0.9, 1.0, 0.0, 0.0]);
     let pitch: Vec<f32> = (0..512).map(|i| 60.0 + 3.0 * (i % 31) as f32).collect();
-    let mut audio = noise(1024);
+    let (mut audio, mut heard) = (noise(1024), noise(1024));
     let b = Block { frames: 256, pitch: &pitch, steering: None };
-    let (mut bank, mut counts) = (None, vec![]);
+    let (mut bank, mut scratch, mut counts) = (None, None, vec![]);
     // SAFETY: between the two only calls of the wrapper are made, which put the default back for themselves.
     unsafe { put_mxcsr(mode) };
     let setup = Setup { code, table: table(&design), ..Setup::new(Structure::PoleZero, 48000.0, 2, 2) };
     let answer = Bank::open(setup).and_then(|mut opened| {
         opened.set(1, &p)?;
         opened.start(1)?;
+        let mut copy = opened.clone();
+        opened.audition(b, &mut copy, &mut heard)?;
+        scratch = Some(copy);
         opened.block(b, &mut audio)?;
         counts = opened.counts().to_vec();
         bank = Some(Bank::restore(&opened.park())?);
@@ -59,9 +62,10 @@ fn sitting(code: u32, mode: u32) -> Vec<u32> {
     let left = mxcsr();
     unsafe { put_mxcsr(DEFAULT) };
     assert_eq!((answer, left & !0x3f), (Ok(()), mode & !0x3f));
-    let bank = bank.unwrap();
-    let lists = [&audio[..], bank.targets(), bank.records(), bank.delay(), &bank.setup().table.sections];
-    lists.concat().iter().map(|x| x.to_bits()).chain(counts).chain([bank.cursor() as u32]).collect()
+    let (bank, scratch) = (bank.unwrap(), scratch.unwrap());
+    let lists = [&audio[..], bank.targets(), bank.records(), bank.delay(), &bank.setup().table.sections,
+        &heard, scratch.targets(), scratch.records(), scratch.delay()];
+    lists.concat().iter().map(|x| x.to_bits()).chain(counts).chain(scratch.counts().to_vec()).chain([bank.cursor() as u32]).collect()
 }
 
 #[test]

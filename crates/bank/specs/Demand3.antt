@@ -1,5 +1,5 @@
--- Demand 3 at the bank's engine (document 01, 'A voice from its feed'; document 02, C-11: counts are compared too; C-12: lists with park and
--- restore): the two statements, then their proofs from voices/specs/Voice and the engine's laws. Assumes nothing.
+-- Demand 3 at the bank's engine (document 01, 'A voice from its feed'; document 02, C-11: counts are compared too; C-12 and C-16: lists with park,
+-- restore and audition): the two statements, then their proofs from voices/specs/Voice and the engine's laws. Assumes nothing.
 use mathlib.Core.Path.{_≡_, refl, subst}
 use Prim.Native.Nat.{ℕ, _<_}
 use mathlib.Core.List.{List, _++_}
@@ -7,7 +7,7 @@ use Rattle.filter.specs.declared.VoiceParams.{VoiceParams}
 use Rattle.slots.specs.Engine.{engineOf}
 use Rattle.setups.specs.Setup.{SoloSetup}
 use Rattle.slots.specs.Laws.{engine-laws}
-use Rattle.voices.specs.Calls.{Check, fine, refused, Engine, Bank, Call, callSet, callStart, callBlock, callPark, callRestore, Run}
+use Rattle.voices.specs.Calls.{Check, fine, refused, Engine, Bank, Call, callSet, callStart, callBlock, callPark, callRestore, callAudition, Run}
 use Rattle.voices.specs.Calls.{openVerdict, verdict, perform, call, opened, run, Returning}
 use Rattle.voices.specs.Feed.{Event, feed, Same, Alike}
 use Rattle.voices.specs.Voice.{theorem, corollary}
@@ -84,3 +84,4 @@ call-from E n x r = go (verdict E n x (r .bank)) x
     go fine (callBlock q) = refl
     go fine (callPark written) = refl
     go fine (callRestore file lent) = refl
+    go fine (callAudition q lent) = refl

@@ -17,7 +17,7 @@ use Rattle.places.specs.Places.{count, every, soundFile, isOnce}
 use Rattle.setups.specs.Setup.{referenceRefused, setupCheckOf}
 use Rattle.setups.specs.Parked.{fileVerdict, restoreVerdict}
 use Rattle.voices.specs.Calls.{targetsWidth, recordWidth, fine, refused, check, _then_, Bank, Block, Call, callSet, callStart, callBlock}
-use Rattle.voices.specs.Calls.{callPark, callRestore, setOf, startSlot, startOf, openOf, openVerdict, verdict, opened}
+use Rattle.voices.specs.Calls.{callPark, callRestore, callAudition, setOf, startSlot, startOf, openOf, openVerdict, verdict, opened}
 use Rattle.voices.specs.Feed.{Frame, eventSet, eventStart, eventFrame, feed}
 use Rattle.checks.specs.declared.Setup.{Setup}
 use Rattle.checks.specs.Setup.{engine}
@@ -41,6 +41,10 @@ number k = ofBits binary32 k
 block : Block
 block = record { frames = 2; pitch = tab number 4; steered = true; x = tab number 4; y = replicate 4 nan; audio = tab number 4; counts = 8 ∷ 9 ∷ [] }
 
+-- no scratch
+noLists : Bank
+noLists = record { targets = []; records = []; delay = []; cursor = 0 }
+
 calls : List (Call VoiceParams)
 calls =
     callStart 2
@@ -49,6 +53,8 @@ calls =
     ∷ callRestore [] lists
     ∷ callSet 1 defaultParams
     ∷ callStart 1
+    ∷ callAudition block lists
+    ∷ callAudition block noLists
     ∷ callBlock block
     ∷ []
 
@@ -61,6 +67,14 @@ park-is-accepted : (t : Table) → verdict (engine (setup t)) 2 (callPark 12288)
 unfolding setup lists setupCheckOf referenceRefused rateRefused ringLen nextPower check _then_ isNan lt round size mul toUnsigned
 park-is-accepted t = refl
 
+audition-is-accepted : (t : Table) → verdict (engine (setup t)) 2 (callAudition block lists) lists ≡ fine
+unfolding setup lists block setupCheckOf referenceRefused rateRefused ringLen nextPower check _then_ isNan lt round size mul toUnsigned
+audition-is-accepted t = refl
+
+scratch-is-refused : (t : Table) → verdict (engine (setup t)) 2 (callAudition block noLists) lists ≡ refused 14
+unfolding setup lists noLists block setupCheckOf referenceRefused rateRefused ringLen nextPower check _then_ isNan lt round size mul toUnsigned
+scratch-is-refused t = refl
+
 empty-is-refused : (t : Table) → verdict (engine (setup t)) 2 (callRestore [] lists) lists ≡ refused 13
 unfolding restoreVerdict fileVerdict soundFile every isOnce count check _then_
 empty-is-refused t = refl
@@ -71,11 +85,11 @@ frame0 = record { pitch = number 1; inputs = number 1 ∷ []; steering = some (n
 frame1 : Frame
 frame1 = record { pitch = number 3; inputs = number 3 ∷ []; steering = some (number 3, nan) }
 
--- the refused calls, the other voice's set and the park add nothing
+-- the refused calls, the other voice's set, the park and the audition add nothing
 feed-computes : (t : Table)
     → feed (engine (setup t)) 2 1 calls (opened (engine (setup t)) 2 lists)
     ≡ eventSet defaultParams ∷ eventStart ∷ eventFrame frame0 ∷ eventFrame frame1 ∷ []
 unfolding setup lists setupCheckOf referenceRefused rateRefused ringLen nextPower check _then_ isNan lt round size mul toUnsigned
-    restoreVerdict fileVerdict soundFile every isOnce count block calls frame0 frame1 openOf startOf startSlot setOf piece patch
+    restoreVerdict fileVerdict soundFile every isOnce count block noLists calls frame0 frame1 openOf startOf startSlot setOf piece patch
     nanKnob defaultParams voiceTargets targetsOf morphTargetsOf
 feed-computes t = refl

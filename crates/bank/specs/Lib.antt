@@ -3,3 +3,4 @@ pub mod Bank
 pub mod Demand3
 pub mod Example
 pub mod Contracts
+pub mod Answers

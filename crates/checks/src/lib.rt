@@ -3,7 +3,8 @@ ghost use mathlib.Core.Path.{_≡_};
 ghost use mathlib.Core.Bool.{cond};
 ghost use mathlib.Core.List.{[]};
 ghost use Rattle.setups.specs.Setup.{referenceRefused, within, setupCheckOf};
-ghost use Rattle.voices.specs.Calls.{fine, callSet, callStart, callBlock, callPark, fileLength};
+ghost use Rattle.lines.specs.Lines.{ringLen};
+ghost use Rattle.voices.specs.Calls.{fine, callSet, callStart, callBlock, callPark, callAudition, areLong, fileLength};
 ghost use Rattle.checks.specs.Setup.{soloOf, engine};
 ghost use Rattle.checks.specs.Checks.{checkOf, bankOf, blockFrom, IsOpenVerdict, IsVerdict};
 use filter::VoiceParams;
@@ -72,6 +73,22 @@ pub fn setup_check(setup: Setup) -> Verdict
     }
 }
 
+// Whether the lists are as long as an accepted setup asks.
+fn are_long(setup: Setup, targets: &[f32], records: &[f32], delay: &[f32]) -> bool
+    requires { ⌜ setupCheckOf (soloOf setup) (setup .voices) ≡ fine ⌝ }
+    ensures { λ r. ⌜ r ≡ areLong (setup .channels) (ringLen (setup .rate)) (setup .voices)
+        (bankOf (now (targets .entry)) (now (records .entry)) (now (delay .entry)) 0) ⌝ }
+{
+    let slots = setup.channels * setup.voices;
+    if targets.len() != setup.voices * 10 {
+        return false;
+    }
+    if records.len() != slots * RECORD_WIDTH {
+        return false;
+    }
+    delay.len() == slots * lines::ring_len(setup.rate)
+}
+
 // The setup's refusals, then 6: the checks of open, which start and block make too.
 pub fn open_check(setup: Setup, targets: &[f32], records: &[f32], delay: &[f32]) -> Verdict
     ensures { λ r. ⌜ IsOpenVerdict setup (bankOf (now (targets .entry)) (now (records .entry)) (now (delay .entry)) 0) r ⌝ }
@@ -80,14 +97,7 @@ pub fn open_check(setup: Setup, targets: &[f32], records: &[f32], delay: &[f32])
     if let Verdict::Refused(n) = first {
         return Verdict::Refused(n);
     }
-    let slots = setup.channels * setup.voices;
-    if targets.len() != setup.voices * 10 {
-        return Verdict::Refused(6);
-    }
-    if records.len() != slots * RECORD_WIDTH {
-        return Verdict::Refused(6);
-    }
-    if delay.len() != slots * lines::ring_len(setup.rate) {
+    if !are_long(setup, targets, records, delay) {
         return Verdict::Refused(6);
     }
     Verdict::Fine
@@ -212,6 +222,50 @@ pub fn block_check(
     }
     if counts.len() != slots {
         return Verdict::Refused(10);
+    }
+    Verdict::Fine
+}
+
+// Those of block, then 14 of the scratch lists (C-16).
+pub fn audition_check(
+    setup: Setup,
+    targets: &[f32],
+    records: &[f32],
+    delay: &[f32],
+    scratch_targets: &[f32],
+    scratch_records: &[f32],
+    scratch_delay: &[f32],
+    frames: usize,
+    pitch: &[f32],
+    steered: bool,
+    x: &[f32],
+    y: &[f32],
+    audio: &[f32],
+    counts: &[u32],
+) -> Verdict
+    ensures { λ r. ⌜ IsVerdict setup
+        (callAudition (blockFrom frames (now (pitch .entry)) steered (now (x .entry)) (now (y .entry)) (now (audio .entry)) (now (counts .entry)))
+        (bankOf (now («scratch_targets» .entry)) (now («scratch_records» .entry)) (now («scratch_delay» .entry)) 0))
+        (bankOf (now (targets .entry)) (now (records .entry)) (now (delay .entry)) 0) r ⌝ }
+{
+    let first = block_check(
+        setup,
+        targets,
+        records,
+        delay,
+        frames,
+        pitch,
+        steered,
+        x,
+        y,
+        audio,
+        counts,
+    );
+    if let Verdict::Refused(n) = first {
+        return Verdict::Refused(n);
+    }
+    if !are_long(setup, scratch_targets, scratch_records, scratch_delay) {
+        return Verdict::Refused(14);
     }
     Verdict::Fine
 }

@@ -14,14 +14,15 @@ use borrow.Author.Tests.{eq-eqb, le-leb}
 use Rattle.lane.specs.Floats.{zero as silent, one}
 use Rattle.lines.specs.Lines.{ringLen}
 use Rattle.setups.specs.Setup.{setupCheckOf}
-use Rattle.voices.specs.Calls.{targetsWidth, recordWidth, fine, check, _then_, Bank, Block, callBlock, Answer, kept, rendered, Run, openOf, blockOf, openVerdict, verdict, cursorAfter}
+use Rattle.voices.specs.Calls.{targetsWidth, recordWidth, fine, check, _then_, Bank, Block, callBlock, kept, Run, openOf, blockOf, openVerdict, verdict, accepted}
 use Rattle.voices.specs.Accepted.{Lengths}
 use Rattle.checks.specs.declared.Setup.{Setup}
 use Rattle.checks.specs.Setup.{soloOf, engine}
 use Rattle.checks.specs.Checks.{bankOf, blockFrom}
 use Rattle.bank.specs.declared.Answer.{Answer as CodeAnswer}
 use Rattle.bank.specs.declared.Answer.the-variants.{Refused, Kept, Rendered}
-use Rattle.bank.specs.Bank.{answerOf, cursorOf, after, openBy, OpenDoes, BlockDoes}
+use Rattle.bank.specs.Bank.{answerOf, cursorOf, before, after, openBy, OpenDoes, BlockDoes}
+use Rattle.bank.specs.Answers.{newest, rendered-is}
 use Rattle.impulses.specs.Impulse.{rateOf, impulseSetup, steadyPitch, silence, impulseOf, renderedOf, responseOf}
 use Rattle.impulses.specs.Cells.{ring-fits}
 use Rattle.impulses.proofs.Verdicts.{Accepted, rate-is}
@@ -52,31 +53,18 @@ kept-zero (Refused k) e = cc
 kept-zero (Kept cur) e = cc
 kept-zero (Rendered cur f) e = cc
 
-first : List Answer → Answer
-first [] = kept 0
-first (a ∷ l) = a
-
 module _ (s : Setup) (tg₀ rs₀ ds₀ : List Float) (r : CodeAnswer) (s' : Setup) (tg rs ds : List Float) where
   pub opened-bank : openVerdict (engine s) (s .voices) (bankOf tg₀ rs₀ ds₀ 0) ≡ fine → OpenDoes s (bankOf tg₀ rs₀ ds₀ 0) r s' tg rs ds → bankOf tg rs ds 0 ≡ openOf (engine s) (s .voices) (bankOf tg₀ rs₀ ds₀ 0)
-  unfolding first
   opened-bank ok d =
       let e : after r 0 tg rs ds [] [] ≡ openBy fine s (bankOf tg₀ rs₀ ds₀ 0) = rw ok at (d .does) in
-      let k : cursorOf r 0 ≡ 0 = kept-zero r (ap (λ (w : Run). first (w .log)) e) in
+      let k : cursorOf r 0 ≡ 0 = kept-zero r (ap newest e) in
       ap (λ (n : ℕ). bankOf tg rs ds n) (sym k) ∙ ap (λ (w : Run). w .bank) e
-
-rendered-audio : (r : CodeAnswer) (audio left : List Float) (counts over : List ℕ) (cur f : ℕ)
-    → answerOf r audio counts ≡ rendered cur f left over → audio ≡ left
-unfolding answerOf
-rendered-audio (Refused k) audio left counts over cur f e = cc
-rendered-audio (Kept c) audio left counts over cur f e = cc
-rendered-audio (Rendered c g) audio left counts over cur f e = cc
 
 pub block-audio : (s : Setup) (q : Block) (b : Bank) (r : CodeAnswer) (rs ds audio : List Float) (counts : List ℕ)
     → verdict (engine s) (s .voices) (callBlock q) b ≡ fine → BlockDoes s q b r rs ds audio counts → audio ≡ blockOf (engine s) (s .voices) q b .audio
-unfolding first
 block-audio s q b r rs ds audio counts ok d =
-    let e : after r (b .cursor) (b .targets) rs ds audio counts ≡ record { bank = record { targets = b .targets; records = blockOf (engine s) (s .voices) q b .records; delay = blockOf (engine s) (s .voices) q b .delay; cursor = cursorAfter (engine s) (b .cursor) (q .frames) }; log = rendered (cursorAfter (engine s) (b .cursor) (q .frames)) (q .frames) (blockOf (engine s) (s .voices) q b .audio) (blockOf (engine s) (s .voices) q b .counts) ∷ [] } = rw ok at (d .does) in
-    rendered-audio r audio _ counts _ _ _ (ap (λ (w : Run). first (w .log)) e)
+    let e : after r (b .cursor) (b .targets) rs ds audio counts ≡ accepted (engine s) (s .voices) (callBlock q) (before b) = rw ok at (d .does) in
+    rendered-is r _ _ audio _ counts _ (ap newest e) .1
 
 -- the two calls on lists of zeros, at a setup of the program
 module _ (code rate : ℕ) (ds₀ pitch audio : List Float) (a : Accepted code rate (length audio)) (hd : length ds₀ ≡ ringLen (rateOf rate)) (hp : length pitch ≡ length audio) where
@@ -84,13 +72,13 @@ module _ (code rate : ℕ) (ds₀ pitch audio : List Float) (a : Accepted code r
   unfolding impulseSetup
   open-lengths = record { targets = silence-length 10; records = silence-length recordWidth; delay = omega arith }
 
-  pub rendered-is : (tg rs ds rs' ds' left : List Float) (over : List ℕ) (r r' : CodeAnswer) (s' : Setup)
+  pub rendering-is : (tg rs ds rs' ds' left : List Float) (over : List ℕ) (r r' : CodeAnswer) (s' : Setup)
       → length tg ≡ 10 → length rs ≡ recordWidth → length ds ≡ length ds₀
       → OpenDoes (impulseSetup code rate) (bankOf (silence targetsWidth) (silence recordWidth) ds₀ 0) r s' tg rs ds
       → BlockDoes (impulseSetup code rate) (blockFrom (length audio) pitch false [] [] audio (0 ∷ [])) (bankOf tg rs ds 0) r' rs' ds' left over
       → left ≡ renderedOf code rate ds₀ pitch audio
   unfolding impulseSetup renderedOf
-  rendered-is tg rs ds rs' ds' left over r r' s' ht hr hs o b =
+  rendering-is tg rs ds rs' ds' left over r r' s' ht hr hs o b =
       let s = impulseSetup code rate in
       let q = blockFrom (length audio) pitch false [] [] audio (0 ∷ []) in
       let l : Lengths (engine s) 1 (bankOf tg rs ds 0) = record { targets = ht; records = hr; delay = omega arith } in

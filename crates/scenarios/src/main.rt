@@ -19,9 +19,10 @@ struct Lengths {
 }
 
 // What the next call is handed beside the lists' numbers. `own` are the lists' lengths and `lent` those that the next call is
-// given, which a `lend` line changes. The fields from `counts` on are a block's: where a `counts` line `said` so, the next one's
-// list of counts has `counts` numbers. Those from `frames` on are as its lines are read: `awaited` counts those still to come, and
-// `pitch` to `audio` are how many numbers its lists have.
+// given, which a `lend` line changes. The fields from `counts` on are a block's or an audition's: where a `counts` line `said` so,
+// the next one's list of counts has `counts` numbers; where a `scratch` line `told` so, the next audition's scratch lists have
+// those lengths. Those from `heard` on are as its lines are read: `heard` tells an audition, `awaited` counts the lines still to
+// come, and `pitch` to `audio` are how many numbers its lists have.
 struct State {
     setup: Setup,
     cursor: usize,
@@ -29,6 +30,9 @@ struct State {
     lent: Lengths,
     counts: usize,
     said: bool,
+    scratch: Lengths,
+    told: bool,
+    heard: bool,
     frames: usize,
     steered: bool,
     digest: bool,
@@ -329,6 +333,13 @@ fn fresh() -> State {
         },
         counts: 0,
         said: false,
+        scratch: Lengths {
+            targets: 0,
+            records: 0,
+            delay: 0,
+        },
+        told: false,
+        heard: false,
         frames: 0,
         steered: false,
         digest: false,
@@ -460,9 +471,23 @@ fn read_counts(s: &[u8], st: State) -> StateRead {
     }
 }
 
-// `block` or `blockh` frames steered; four lines follow.
-fn read_block(s: &[u8], st: State, digest: bool) -> StateRead {
+// `scratch` T R D
+fn read_scratch(s: &[u8], st: State) -> StateRead {
     let mut next = st;
+    let at = words::start(s, 0, 1);
+    let scratch = lengths_at(s, at);
+    next.scratch = scratch;
+    next.told = true;
+    StateRead {
+        state: next,
+        ok: ends_at(s, 4) & are_lengths(s, at),
+    }
+}
+
+// `block`, `blockh` or `audition` frames steered; four lines follow.
+fn read_block(s: &[u8], st: State, digest: bool, heard: bool) -> StateRead {
+    let mut next = st;
+    next.heard = heard;
     next.frames = count_at(s, 0, 1);
     next.steered = count_at(s, 0, 2) != 0;
     next.digest = digest;
@@ -495,9 +520,11 @@ fn read_state(word: usize, s: &[u8], st: State) -> StateRead {
         3 => read_setup(s, st),
         4 => read_lend(s, st),
         5 => read_cursor(s, st),
-        9 => read_block(s, st, false),
-        10 => read_block(s, st, true),
+        9 => read_block(s, st, false, false),
+        10 => read_block(s, st, true, false),
         16 => read_counts(s, st),
+        17 => read_block(s, st, false, true),
+        18 => read_scratch(s, st),
         _ => StateRead {
             state: st,
             ok: is_read(word, s),
@@ -740,6 +767,62 @@ fn block_call(
     )
 }
 
+// How long the scratch lists of an audition are: as a `scratch` line said, or as the bank's.
+fn scratch_of(st: State) -> Lengths {
+    if st.told {
+        let scratch = st.scratch;
+        return scratch;
+    }
+    let lent = st.lent;
+    lent
+}
+
+fn audition_call(
+    st: State,
+    targets: &[f32],
+    records: &[f32],
+    delay: &[f32],
+    scratch_targets: &mut [f32],
+    scratch_records: &mut [f32],
+    scratch_delay: &mut [f32],
+    pitch: &[f32],
+    x: &[f32],
+    y: &[f32],
+    audio: &mut [f32],
+    counts: &mut [u32],
+) -> Answer {
+    let lent = st.lent;
+    let scratch = scratch_of(st);
+    let t = at_most(lent.targets, targets.len());
+    let r = at_most(lent.records, records.len());
+    let d = at_most(lent.delay, delay.len());
+    let ts = at_most(scratch.targets, scratch_targets.len());
+    let rs = at_most(scratch.records, scratch_records.len());
+    let ds = at_most(scratch.delay, scratch_delay.len());
+    let pn = at_most(st.pitch, pitch.len());
+    let xn = at_most(st.x, x.len());
+    let yn = at_most(st.y, y.len());
+    let an = at_most(st.audio, audio.len());
+    let cn = at_most(counts_of(st), counts.len());
+    auditions::audition(
+        st.setup,
+        st.cursor,
+        &targets[0..t],
+        &records[0..r],
+        &delay[0..d],
+        &mut scratch_targets[0..ts],
+        &mut scratch_records[0..rs],
+        &mut scratch_delay[0..ds],
+        st.frames,
+        &pitch[0..pn],
+        st.steered,
+        &x[0..xn],
+        &y[0..yn],
+        &mut audio[0..an],
+        &mut counts[0..cn],
+    )
+}
+
 // A block's samples or their sums.
 fn put_samples(out: &mut [u8], at: usize, digest: bool, audio: &[f32]) -> usize {
     if digest {
@@ -800,6 +883,13 @@ fn after_block(st: State, cursor: usize) -> State {
     next
 }
 
+// The same after an audition, which leaves the cursor: the next one's scratch is as long as the bank's lists.
+fn after_audition(st: State) -> State {
+    let mut next = after_block(st, st.cursor);
+    next.told = false;
+    next
+}
+
 // The state after a line that is no block's.
 fn state_after(word: usize, st: State) -> State {
     match word {
@@ -849,6 +939,79 @@ fn block_line(
     }
 }
 
+// An audition's answer, and the scratch where it is accepted.
+fn put_audition(
+    out: &mut [u8],
+    at: usize,
+    a: Answer,
+    st: State,
+    audio: &[f32],
+    counts: &[u32],
+    scratch_targets: &[f32],
+    scratch_records: &[f32],
+    scratch_delay: &[f32],
+) -> usize {
+    let p = put_block(out, at, a, st, audio, counts);
+    if is_accepted(a) {
+        return dump(
+            scratch_of(st),
+            scratch_targets,
+            scratch_records,
+            scratch_delay,
+            out,
+            p,
+        );
+    }
+    p
+}
+
+// The same of an audition. Each number of its scratch is a quarter before.
+fn audition_line(
+    st: State,
+    targets: &[f32],
+    records: &[f32],
+    delay: &[f32],
+    pitch: &[f32],
+    x: &[f32],
+    y: &[f32],
+    audio: &mut [f32],
+    out: &mut [u8],
+    at: usize,
+) -> Step {
+    let mut counts = [7u32; 1024];
+    let mut scratch_targets = [0.25f32; 161];
+    let mut scratch_records = [0.25f32; 993];
+    let mut scratch_delay = [0.25f32; 65537];
+    let a = audition_call(
+        st,
+        targets,
+        records,
+        delay,
+        &mut scratch_targets,
+        &mut scratch_records,
+        &mut scratch_delay,
+        pitch,
+        x,
+        y,
+        audio,
+        &mut counts,
+    );
+    Step {
+        state: after_audition(st),
+        at: put_audition(
+            out,
+            at,
+            a,
+            st,
+            audio,
+            &counts,
+            &scratch_targets,
+            &scratch_records,
+            &scratch_delay,
+        ),
+    }
+}
+
 fn respond(
     word: usize,
     s: &[u8],
@@ -864,6 +1027,9 @@ fn respond(
     at: usize,
 ) -> Step {
     if word == 15 {
+        if st.heard {
+            return audition_line(st, targets, records, delay, pitch, x, y, audio, out, at);
+        }
         return block_line(st, targets, records, delay, pitch, x, y, audio, out, at);
     }
     Step {
@@ -882,11 +1048,11 @@ fn put_unread(out: &mut [u8]) -> usize {
     text::put_bytes(out, 0, b"?\n")
 }
 
-// The place of the line's first word among the commands; 17 where it is none of them.
+// The place of the line's first word among the commands; 19 where it is none of them.
 fn command_at(s: &[u8]) -> usize {
     words::name_at(
-        b"scenario table open setup lend cursor poke set start block blockh dump p x y a counts",
-        17,
+        b"scenario table open setup lend cursor poke set start block blockh dump p x y a counts audition scratch",
+        19,
         s,
         0,
     )

@@ -1,4 +1,4 @@
--- What the exported calls of the bank answer and leave: numbers in place of the answers of voices/specs/Calls (document 02, C-11 and C-12).
+-- What the exported calls of the bank answer and leave: numbers in place of the answers of voices/specs/Calls (document 02, C-11, C-12, C-16).
 -- Definitions only. Assumes nothing.
 use mathlib.Core.Path.{_≡_}
 use Prim.Native.Nat.{ℕ}
@@ -6,7 +6,8 @@ use mathlib.Core.Bool.{Bool}
 use mathlib.Core.List.{List, [], _∷_}
 use lib.Ieee.{Float}
 use Rattle.filter.specs.declared.VoiceParams.{VoiceParams}
-use Rattle.voices.specs.Calls.{Check, fine, refused, Bank, Block, Call, callBlock, Answer, refusedCall, kept, rendered, Run, call, openVerdict}
+use Rattle.voices.specs.Calls.{Check, fine, refused, Bank, Block, Call, callBlock, callAudition, Answer, refusedCall, kept, rendered, auditioned, Run}
+use Rattle.voices.specs.Calls.{call, openVerdict}
 use Rattle.checks.specs.declared.Setup.{Setup}
 use Rattle.checks.specs.Setup.{soloOf, engine}
 use Rattle.setups.specs.Parked.{cursorIn, restoreVerdict, Holds}
@@ -15,7 +16,7 @@ use Rattle.parking.specs.Parking.{parkVerdict, writtenBy, setupIn, restoredBy}
 
 -- the interface's version, 10,000 x major + 100 x minor + patch
 abbrev pub version : ℕ
-version = 700
+version = 800
 
 -- a setup from the numbers that a caller in C hands over
 abbrev pub setupOf : (code : ℕ) (rate reference : Float) (voices channels : ℕ) (clean : Bool)
@@ -66,6 +67,7 @@ numberIn [] = 0
 numberIn (refusedCall k ∷ l) = k
 numberIn (kept cursor ∷ l) = 0
 numberIn (rendered cursor frames audio counts ∷ l) = 0
+numberIn (auditioned scratch frames audio counts ∷ l) = 0
 
 -- the frames that it rendered, or the number that stood there
 abbrev pub framesIn : List Answer → ℕ → ℕ
@@ -73,6 +75,7 @@ framesIn [] before = before
 framesIn (refusedCall k ∷ l) before = before
 framesIn (kept cursor ∷ l) before = before
 framesIn (rendered cursor frames audio counts ∷ l) before = frames
+framesIn (auditioned scratch frames audio counts ∷ l) before = frames
 
 -- the audio that it left: the rendered one, or as it was
 abbrev pub audioIn : List Answer → List Float → List Float
@@ -80,6 +83,7 @@ audioIn [] before = before
 audioIn (refusedCall k ∷ l) before = before
 audioIn (kept cursor ∷ l) before = before
 audioIn (rendered cursor frames audio counts ∷ l) before = audio
+audioIn (auditioned scratch frames audio counts ∷ l) before = audio
 
 -- the counts that it left (C-11): the block's, or as they were
 abbrev pub countsIn : List Answer → List ℕ → List ℕ
@@ -87,6 +91,15 @@ countsIn [] before = before
 countsIn (refusedCall k ∷ l) before = before
 countsIn (kept cursor ∷ l) before = before
 countsIn (rendered cursor frames audio counts ∷ l) before = counts
+countsIn (auditioned scratch frames audio counts ∷ l) before = counts
+
+-- the scratch that it left, with its cursor (C-16): the audition's, or as it was
+abbrev pub scratchIn : List Answer → Bank → Bank
+scratchIn [] before = before
+scratchIn (refusedCall k ∷ l) before = before
+scratchIn (kept cursor ∷ l) before = before
+scratchIn (rendered cursor frames audio counts ∷ l) before = before
+scratchIn (auditioned scratch frames audio counts ∷ l) before = scratch
 
 -- ---- what each exported call promises, of the run that the definitions' call makes
 
@@ -116,6 +129,13 @@ CallLeaves s x b n tg rs ds = ListsLeft (call (engine s) (s .voices) x (before b
 abbrev pub BlockLeaves : Setup → Block → Bank → (given number cursor frames : ℕ) (records delay audio : List Float) (counts : List ℕ) → Type 0
 BlockLeaves s q b given n cur f rs ds audio counts =
     BlockLeft (call (engine s) (s .voices) (callBlock q) (before b)) q given n cur f (b .targets) rs ds audio counts
+
+-- audition (C-16): of the lent scratch what block says of the bank
+abbrev pub AuditionLeaves : Setup → Block → (lent : Bank) → Bank
+    → (given number cursor frames : ℕ) (targets records delay audio : List Float) (counts : List ℕ) → Type 0
+AuditionLeaves s q lent b given n cur f tg rs ds audio counts =
+    let l = call (engine s) (s .voices) (callAudition q lent) (before b) .log in
+    BlockLeft (record { bank = scratchIn l lent; log = l }) q given n cur f tg rs ds audio counts
 
 -- ---- park and restore (C-12)
 

@@ -7,7 +7,7 @@ ghost use Rattle.bank.specs.Bank.{cursorOf};
 ghost use Rattle.filter.specs.Voice.{defaultParams};
 ghost use Rattle.setups.specs.Parked.{fileVerdict};
 ghost use Rattle.parking.specs.Parking.{parkLength};
-ghost use Rattle.sentivolus.specs.Calls.{version, setupOf, paramsOf, paramNumbers, OpenLeaves, CallLeaves, BlockLeaves};
+ghost use Rattle.sentivolus.specs.Calls.{version, setupOf, paramsOf, paramNumbers, OpenLeaves, CallLeaves, BlockLeaves, AuditionLeaves};
 ghost use Rattle.sentivolus.specs.Calls.{ParkLeft, SetupLeft, RestoreLeft};
 ghost use Rattle.sentivolus.specs.Answers.{numberOf, framesOr, heldNumber, setupLeft, cursorLeft};
 use bank::Answer;
@@ -22,7 +22,7 @@ use pole_zero::Table;
 pub extern "C" fn sentivolus_version() -> u32
     ensures { λ r. ⌜ r ≡ version ⌝ }
 {
-    700
+    800
 }
 
 // The default settings of a voice, in the order of VoiceParams.
@@ -291,6 +291,78 @@ pub extern "C" fn sentivolus_block(
         counts,
     );
     *cursor = cursor_of(a, from);
+    *rendered = frames_or(a, shown);
+    number_of(a)
+}
+
+// Renders a block on a copy of the bank (C-16), which the scratch lists and `scratch_cursor` hold afterwards; `counts` and `rendered` as of a block. The
+// bank's own lists and cursor stay.
+#[no_mangle]
+pub extern "C" fn sentivolus_audition(
+    code: u32,
+    rate: f32,
+    reference: f32,
+    voices: usize,
+    channels: usize,
+    clean: bool,
+    active: u32,
+    sections: &[f32; 160],
+    gain: f32,
+    cursor: usize,
+    targets: &[f32],
+    records: &[f32],
+    delay: &[f32],
+    scratch_cursor: &mut usize,
+    scratch_targets: &mut [f32],
+    scratch_records: &mut [f32],
+    scratch_delay: &mut [f32],
+    frames: usize,
+    pitch: &[f32],
+    steered: bool,
+    x: &[f32],
+    y: &[f32],
+    audio: &mut [f32],
+    counts: &mut [u32],
+    rendered: &mut usize,
+) -> u32
+    ensures { λ r. ⌜ AuditionLeaves (setupOf code rate reference voices channels clean active (now (sections .entry)) gain)
+        (blockFrom frames (now (pitch .entry)) steered (now (x .entry)) (now (y .entry)) (now (audio .entry)) (now (counts .entry)))
+        (bankOf (now («scratch_targets» .entry)) (now («scratch_records» .entry)) (now («scratch_delay» .entry)) (now («scratch_cursor» .entry)))
+        (bankOf (now (targets .entry)) (now (records .entry)) (now (delay .entry)) cursor)
+        (now (rendered .entry)) r (now («scratch_cursor» .exit)) (now (rendered .exit))
+        (now («scratch_targets» .exit)) (now («scratch_records» .exit)) (now («scratch_delay» .exit)) (now (audio .exit)) (now (counts .exit)) ⌝ }
+{
+    let s = setup_of(
+        code,
+        rate,
+        reference,
+        voices,
+        channels,
+        clean,
+        active,
+        sections,
+        gain,
+    );
+    let at = *scratch_cursor;
+    let shown = *rendered;
+    let a = auditions::audition(
+        s,
+        cursor,
+        targets,
+        records,
+        delay,
+        scratch_targets,
+        scratch_records,
+        scratch_delay,
+        frames,
+        pitch,
+        steered,
+        x,
+        y,
+        audio,
+        counts,
+    );
+    *scratch_cursor = cursor_of(a, at);
     *rendered = frames_or(a, shown);
     number_of(a)
 }

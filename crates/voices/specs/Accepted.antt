@@ -1,12 +1,12 @@
 -- For the proofs: nothing here must be believed.
 -- What an accepted call has measured: from a verdict `fine` to the facts. Each law reads the checks from the first on. Assumes nothing.
-use mathlib.Core.Path.{_≡_, refl}
+use mathlib.Core.Path.{_≡_, refl, sym, _∙_}
 use Prim.Native.Nat.{ℕ, _*_, _≤_, _<_}
 use mathlib.Core.Bool.{Bool, true, false, _&&_}
 use lib.ListN.{length}
 use borrow.Author.Tests.{eqb-true, ltb-true, leb-true}
 use Rattle.voices.specs.Calls.{targetsWidth, recordWidth, leastFrames, mostFrames, Check, fine, refused, check, _then_, Engine, Bank, Block}
-use Rattle.voices.specs.Calls.{callSet, callStart, callBlock, storeCheck, steeringLength, openVerdict, verdict}
+use Rattle.voices.specs.Calls.{callSet, callStart, callBlock, callAudition, areLong, storeCheck, steeringLength, openVerdict, verdict}
 
 pub check-fine : (b : Bool) (k : ℕ) → check b k ≡ fine → b ≡ true
 unfolding check
@@ -57,11 +57,21 @@ module _ (E : Engine) (n : ℕ) where
     pub audio : length (q .audio) ≡ q .frames * (channels * n)
     pub counts : length (q .counts) ≡ channels * n
 
-  store-accepted : (b : Bank) → storeCheck E n b ≡ fine → Lengths b
-  store-accepted b e =
-      let ab = and-true _ _ (check-fine _ _ e) in
+  -- the block is, and the scratch lists are as long as the bank's
+  pub record AuditionAccepted (q : Block) (lent b : Bank) : Type 0 where
+    pub block : verdict E n (callBlock q) b ≡ fine
+    pub targets : length (lent .targets) ≡ length (b .targets)
+    pub records : length (lent .records) ≡ length (b .records)
+    pub delay : length (lent .delay) ≡ length (b .delay)
+
+  are-long : (b : Bank) → areLong channels ringLength n b ≡ true → Lengths b
+  are-long b e =
+      let ab = and-true _ _ e in
       let a = and-true _ _ (ab .0) in
       record { targets = eqb-true _ _ (a .0); records = eqb-true _ _ (a .1); delay = eqb-true _ _ (ab .1) }
+
+  store-accepted : (b : Bank) → storeCheck E n b ≡ fine → Lengths b
+  store-accepted b e = are-long b (check-fine _ _ e)
 
   pub open-accepted : (b : Bank) → openVerdict E n b ≡ fine → OpenAccepted b
   open-accepted b e =
@@ -107,3 +117,10 @@ module _ (E : Engine) (n : ℕ) where
         audio = eqb-true _ _ (a .1);
         counts = eqb-true _ _ (m .1);
       }
+
+  pub audition-accepted : (q : Block) (lent b : Bank) → verdict E n (callAudition q lent) b ≡ fine → AuditionAccepted q lent b
+  audition-accepted q lent b e =
+      let c = then-fine _ _ e in
+      let l = are-long lent (check-fine _ _ (c .1)) in
+      let k = block-accepted q b (c .0) .lengths in
+      record { block = c .0; targets = l .targets ∙ sym (k .targets); records = l .records ∙ sym (k .records); delay = l .delay ∙ sym (k .delay) }

@@ -1,4 +1,4 @@
--- The bank's calls on flat lists (document 01, 'A bank is opened' and 'One block goes through'; document 02, C-11, C-12, C-15). Definitions only.
+-- The bank's calls on flat lists (document 01, 'A bank is opened' and 'One block goes through'; document 02, C-11, C-12, C-15, C-16). Definitions only.
 -- What the layers below make of a setup (its checks, targets_of, one tick) is an `Engine`; polyphony is the number n.
 use mathlib.Core.Path.{_≡_}
 use Prim.Native.Nat.{ℕ, _+_, _*_, _%_, _^_, _<_}
@@ -59,14 +59,16 @@ pub record Bank : Type 0 where
   pub delay : List Float
   pub cursor : ℕ
 
--- 6: the lists of n voices as long as the widths, channels and ring length ask
-abbrev pub storeCheckOf : (channels ringLength n : ℕ) → Bank → Check
-storeCheckOf channels ringLength n b =
-    check
-    (eqb (length (b .targets)) (n * targetsWidth)
+-- the lists of n voices are as long as the widths, channels and ring length ask
+abbrev pub areLong : (channels ringLength n : ℕ) → Bank → Bool
+areLong channels ringLength n b =
+    eqb (length (b .targets)) (n * targetsWidth)
     && eqb (length (b .records)) (channels * n * recordWidth)
-    && eqb (length (b .delay)) (channels * n * ringLength))
-    6
+    && eqb (length (b .delay)) (channels * n * ringLength)
+
+-- 6
+abbrev pub storeCheckOf : (channels ringLength n : ℕ) → Bank → Check
+storeCheckOf channels ringLength n b = check (areLong channels ringLength n b) 6
 
 -- ---- the engine: the setup without its polyphony, as the layers below read it
 
@@ -130,13 +132,16 @@ pub data Call (S : Type 0) : Type 0 where
   -- C-12: park is lent a list to write to, restore a file and lists, which may hold anything
   callPark : (written : ℕ) → Call S
   callRestore : (file : List ℕ) (lent : Bank) → Call S
+  -- C-16: audition is lent what block is, and scratch lists, which may hold anything
+  callAudition : Block → (scratch : Bank) → Call S
 
 -- a refusal's number; of set, start and park the cursor they were given; of restore the file's; of block the new cursor and the frames
--- rendered, here with the audio and the counts that it left
+-- rendered, here with the audio and the counts that it left; of audition (C-16) the same, the cursor and the lists being the scratch's
 pub data Answer : Type 0 where
   refusedCall : ℕ → Answer
   kept : (cursor : ℕ) → Answer
   rendered : (cursor frames : ℕ) → (audio : List Float) → (counts : List ℕ) → Answer
+  auditioned : (scratch : Bank) → (frames : ℕ) → (audio : List Float) → (counts : List ℕ) → Answer
 
 -- a bank and its answers so far, the newest first
 pub record Run : Type 0 where
@@ -225,16 +230,24 @@ module _ (E : Engine) where
         && eqb (length (q .counts)) (channels * n))
         10
 
-    -- each call makes the checks whose values it takes, in that order
+    -- 14, of audition: a scratch list of the wrong length (C-16)
+    abbrev pub scratchCheck : Bank → Check
+    scratchCheck scratch = check (areLong channels ringLength n scratch) 14
+
+    -- each call makes the checks whose values it takes, in that order; audition those of block, and after them its own
     abbrev pub openVerdict : Bank → Check
     openVerdict b = setupCheck n then storeCheck b
+
+    abbrev pub blockVerdict : Block → Bank → Check
+    blockVerdict q b = setupCheck n then storeCheck b then framesCheck q then bufferCheck q
 
     abbrev pub verdict : Call S → Bank → Check
     verdict (callSet v s) b = setupCheck n then targetsCheck (b .targets) then voiceCheck v then knobCheck s
     verdict (callStart v) b = setupCheck n then storeCheck b then voiceCheck v
-    verdict (callBlock q) b = setupCheck n then storeCheck b then framesCheck q then bufferCheck q
+    verdict (callBlock q) b = blockVerdict q b
     verdict (callPark written) b = setupCheck n then storeCheck b then fileCheck written
     verdict (callRestore file lent) b = restoreVerdict file lent
+    verdict (callAudition q scratch) b = blockVerdict q b then scratchCheck scratch
 
     -- ---- set writes one voice's targets
 
@@ -302,6 +315,15 @@ module _ (E : Engine) where
         upto (λ c. upto (λ v. slotOf q (piece targetsWidth v (b .targets)) (b .cursor) c v) n) channels
         (record { records = b .records; delay = b .delay; audio = q .audio; counts = q .counts })
 
+    -- the bank that it leaves, with the new cursor
+    abbrev pub afterBlock : Block → Bank → Bank
+    afterBlock q b = record {
+      targets = b .targets;
+      records = blockOf q b .records;
+      delay = blockOf q b .delay;
+      cursor = cursorAfter (b .cursor) (q .frames);
+    }
+
     -- ---- the calls, whole: what they leave and answer
 
     abbrev pub accepted : Call S → Run → Run
@@ -309,13 +331,14 @@ module _ (E : Engine) where
     accepted (callStart v) r = record { bank = startOf v (r .bank); log = kept (r .bank .cursor) ∷ r .log }
     accepted (callBlock q) r =
         let w = blockOf q (r .bank) in
-        let cur = cursorAfter (r .bank .cursor) (q .frames) in
-        record {
-          bank = record { targets = r .bank .targets; records = w .records; delay = w .delay; cursor = cur };
-          log = rendered cur (q .frames) (w .audio) (w .counts) ∷ r .log;
-        }
+        let b = afterBlock q (r .bank) in
+        record { bank = b; log = rendered (b .cursor) (q .frames) (w .audio) (w .counts) ∷ r .log }
     accepted (callPark written) r = record { bank = r .bank; log = kept (r .bank .cursor) ∷ r .log }
     accepted (callRestore file lent) r = record { bank = bankIn file; log = kept (bankIn file .cursor) ∷ r .log }
+    -- C-16: the block on a copy, which the scratch holds afterwards; the bank stays
+    accepted (callAudition q scratch) r =
+        let w = blockOf q (r .bank) in
+        record { bank = r .bank; log = auditioned (afterBlock q (r .bank)) (q .frames) (w .audio) (w .counts) ∷ r .log }
 
     -- a refusal answers its number alone; lists and cursor keep their values
     abbrev pub perform : Check → Call S → Run → Run
@@ -337,6 +360,7 @@ module _ (E : Engine) where
     Returned (callBlock q) r = Unit {0}
     Returned (callPark written) r = Unit {0}
     Returned (callRestore file lent) r = OwnSetup n file × (bankIn file ≡ r .bank)
+    Returned (callAudition q scratch) r = Unit {0}
 
     abbrev pub Returning : List (Call S) → Run → Type 0
     Returning [] r = Unit {0}

@@ -12,7 +12,7 @@ use Rattle.lane.specs.Floats.{zero}
 use Rattle.parts.specs.Parts.{tab, flat, piece, patch}
 use Rattle.voices.specs.Calls.{targetsWidth, recordWidth, fine, refused, check, _then_, Engine, Laws, Bank, Block, Call, callSet, callStart}
 use Rattle.voices.specs.Calls.{callBlock, cursorAfter, setOf, startSlot, startOf, openOf, frameOf, framesOf, slotOf, blockOf, slot, openVerdict}
-use Rattle.voices.specs.Calls.{verdict, Run, run, opened, callPark, callRestore, fileLength, Returning}
+use Rattle.voices.specs.Calls.{verdict, Run, run, opened, callPark, callRestore, callAudition, fileLength, Returning}
 use Rattle.voices.specs.Feed.{Frame, Event, eventStart, eventFrame, started, fresh, tickChannel, advance, voiceOf, feed, samplesOf, countOf}
 use Rattle.voices.specs.Voice.{TwoBanks, corollary}
 
@@ -65,6 +65,10 @@ number k = ofBits binary32 k
 block : Block
 block = record { frames = 2; pitch = tab number 6; steered = false; x = []; y = []; audio = tab number 12; counts = tab (λ k. 90 + k) 6 }
 
+-- no scratch
+noLists : Bank
+noLists = record { targets = []; records = []; delay = []; cursor = 0 }
+
 calls : List (Call (exampleEngine .S))
 unfolding exampleEngine
 calls =
@@ -73,8 +77,10 @@ calls =
     ∷ callPark (fileLength exampleEngine 3)
     ∷ callRestore (1 ∷ []) lists
     ∷ callRestore [] lists
+    ∷ callAudition block lists
     ∷ callBlock block
     ∷ callStart 1
+    ∷ callAudition block noLists
     ∷ callBlock block
     ∷ []
 
@@ -87,9 +93,18 @@ damaged-is-refused : verdict exampleEngine 3 (callRestore [] lists) lists ≡ re
 unfolding exampleEngine check
 damaged-is-refused = refl
 
+-- of the auditions one is accepted, the other has no scratch
+audition-is-accepted : verdict exampleEngine 3 (callAudition block lists) lists ≡ fine
+unfolding exampleEngine check _then_ lists block
+audition-is-accepted = refl
+
+scratch-is-refused : verdict exampleEngine 3 (callAudition block noLists) lists ≡ refused 14
+unfolding exampleEngine check _then_ lists noLists block
+scratch-is-refused = refl
+
 returning : Returning exampleEngine 3 calls (opened exampleEngine 3 lists)
-unfolding exampleEngine check _then_ lists block calls openOf startOf startSlot setOf blockOf slotOf framesOf frameOf piece patch cursorAfter
-returning = (λ e. tt, (λ e. tt, (λ e. tt, (λ e. (tt, refl), (λ e. (tt, refl), (λ e. tt, (λ e. tt, (λ e. tt, tt))))))))
+unfolding exampleEngine check _then_ lists noLists block calls openOf startOf startSlot setOf blockOf slotOf framesOf frameOf piece patch cursorAfter
+returning = (λ e. tt, (λ e. tt, (λ e. tt, (λ e. (tt, refl), (λ e. (tt, refl), (λ e. tt, (λ e. tt, (λ e. tt, (λ e. tt, (λ e. tt, tt))))))))))
 
 after : Run
 after = run exampleEngine 3 calls (opened exampleEngine 3 lists)
@@ -104,7 +119,7 @@ frame1 : Frame
 frame1 = record { pitch = number 4; inputs = number 7 ∷ number 10 ∷ []; steering = none }
 
 feed-computes : feedOfOne ≡ eventFrame frame0 ∷ eventFrame frame1 ∷ eventStart ∷ eventFrame frame0 ∷ eventFrame frame1 ∷ []
-unfolding exampleEngine check _then_ lists block calls feedOfOne frame0 frame1
+unfolding exampleEngine check _then_ lists noLists block calls feedOfOne frame0 frame1
     openOf startOf startSlot setOf blockOf slotOf framesOf frameOf piece patch cursorAfter
 feed-computes = refl
 
@@ -116,6 +131,6 @@ side-by-side :
     × (countOf exampleEngine 3 1 1 (after .log) ≡ 14)
     × (voiceOf exampleEngine feedOfOne .channel 1 .count ≡ 14)
     × (after .bank .cursor ≡ voiceOf exampleEngine feedOfOne .cursor)
-unfolding exampleEngine check _then_ lists block calls after feedOfOne fresh started tickChannel advance
+unfolding exampleEngine check _then_ lists noLists block calls after feedOfOne fresh started tickChannel advance
     openOf startOf startSlot setOf blockOf slotOf framesOf frameOf piece patch cursorAfter
 side-by-side = (refl, refl, refl, refl, refl, refl)

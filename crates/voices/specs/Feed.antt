@@ -1,4 +1,4 @@
--- The feed of a voice, the plain voice, and what is compared (document 01, 'A voice from its feed'; document 02, C-11 and C-12). Definitions only.
+-- The feed of a voice, the plain voice, and what is compared (document 01, 'A voice from its feed'; document 02, C-11, C-12, C-16). Definitions only.
 -- 'Feed' and 'plain voice' are that section's terms: what a list of calls tells one voice, and one voice worked from that alone.
 use mathlib.Core.Path.{_≡_}
 use Prim.Native.Nat.{ℕ, suc, _+_, _<_}
@@ -10,8 +10,8 @@ use lib.ListN.{getD}
 use Rattle.lane.specs.Floats.{_‼_}
 use Rattle.parts.specs.Parts.{tab, piece}
 use Rattle.voices.specs.Calls.{targetsWidth, recordWidth, Check, fine, refused, Steering, Engine, Block, Call, callSet, callStart, callBlock}
-use Rattle.voices.specs.Calls.{callPark, callRestore}
-use Rattle.voices.specs.Calls.{Answer, refusedCall, kept, rendered, Run, cursorAfter, startRecord, startRing, slot, pitchIndex, audioIndex}
+use Rattle.voices.specs.Calls.{callPark, callRestore, callAudition}
+use Rattle.voices.specs.Calls.{Answer, refusedCall, kept, rendered, auditioned, Run, cursorAfter, startRecord, startRing, slot, pitchIndex, audioIndex}
 use Rattle.voices.specs.Calls.{steeringAt, verdict, call}
 
 -- one frame: the voice's pitch, its input sample on each channel, and its x and y or that it is unsteered
@@ -32,12 +32,13 @@ frameCount (eventSet s ∷ es) = frameCount es
 frameCount (eventStart ∷ es) = frameCount es
 frameCount (eventFrame f ∷ es) = suc (frameCount es)
 
--- the sum of frames rendered
+-- the sum of frames rendered; an audition's (C-16) are heard only
 abbrev pub framesRendered : List Answer → ℕ
 framesRendered [] = 0
 framesRendered (refusedCall k ∷ l) = framesRendered l
 framesRendered (kept cur ∷ l) = framesRendered l
 framesRendered (rendered cur f a counts ∷ l) = framesRendered l + f
+framesRendered (auditioned sc f a counts ∷ l) = framesRendered l
 
 -- the plain voice keeps targets, a cursor and, for each channel, a record and a ring; with them the samples that it has given, and how
 -- often it judged a ratio greater than its cap (C-11)
@@ -99,6 +100,7 @@ module _ (E : Engine) where
     }
 
     -- what one call with its verdict adds: a refused call, or a set or start of another voice, nothing; nor do park and restore (C-12)
+    -- and audition (C-16)
     abbrev pub events : Check → (v : ℕ) → Call S → List (Event S)
     events (refused k) v x = []
     events fine v (callSet u s) = cond (eqb u v) (eventSet s ∷ []) []
@@ -106,6 +108,7 @@ module _ (E : Engine) where
     events fine v (callBlock q) = tab (λ k. eventFrame (frameAt q v k)) (q .frames)
     events fine v (callPark written) = []
     events fine v (callRestore file lent) = []
+    events fine v (callAudition q scratch) = []
 
     -- of a list of calls on the run r, in the order of the calls
     abbrev pub feed : (v : ℕ) → List (Call S) → Run → List (Event S)
@@ -120,6 +123,7 @@ module _ (E : Engine) where
     samplesOf v c (refusedCall k ∷ l) = samplesOf v c l
     samplesOf v c (kept cur ∷ l) = samplesOf v c l
     samplesOf v c (rendered cur f a counts ∷ l) = samplesOf v c l ++ tab (λ k. a ‼ audioIndex E n k c v) f
+    samplesOf v c (auditioned sc f a counts ∷ l) = samplesOf v c l
 
     -- voice v's counts on channel c, added up over all accepted blocks (C-11)
     abbrev pub countOf : (v c : ℕ) → List Answer → ℕ
@@ -127,6 +131,7 @@ module _ (E : Engine) where
     countOf v c (refusedCall k ∷ l) = countOf v c l
     countOf v c (kept cur ∷ l) = countOf v c l
     countOf v c (rendered cur f a counts ∷ l) = countOf v c l + getD counts (slot E n c v) 0
+    countOf v c (auditioned sc f a counts ∷ l) = countOf v c l
 
     -- after the run r, voice v is the plain voice of the feed es
     pub record Same (v : ℕ) (r : Run) (es : List (Event S)) : Type 0 where

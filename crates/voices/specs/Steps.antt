@@ -16,7 +16,7 @@ use borrow.Author.Tests.{eqb-true, eqb-false}
 use Rattle.parts.specs.Parts.{piece}
 use Rattle.parts.specs.Laws.{upto-focus, piece-fits, length-patch, piece-patch, piece-other}
 use Rattle.voices.specs.Calls.{targetsWidth, recordWidth, Check, fine, refused, Engine, Laws, Bank, Block, Call, callSet, callStart, callBlock}
-use Rattle.voices.specs.Calls.{callPark, callRestore, Returned, Returning}
+use Rattle.voices.specs.Calls.{callPark, callRestore, callAudition, Returned, Returning}
 use Rattle.voices.specs.Calls.{Run, cursorAfter, startRecord, slot, setOf, startOf, openOf, blockOf, openVerdict, verdict, accepted, perform}
 use Rattle.voices.specs.Calls.{call, run}
 use Rattle.voices.specs.Feed.{eventSet, eventStart, frameCount, framesRendered, PlainVoice, started, fresh, advance, play, frameAt, events}
@@ -208,6 +208,7 @@ module _ (E : Engine) (laws : Laws E) (n : ℕ) where
     step (callStart u) r p fine e t i = step-start u r p e i
     step (callBlock q) r p fine e t i = step-block q r p e i
     step (callPark written) r p fine e t i = record { voice = i .voice; samples = i .samples; count = i .count }
+    step (callAudition q scratch) r p fine e t i = record { voice = i .voice; samples = i .samples; count = i .count }
     step (callRestore file lent) r p fine e t i =
         record { voice = subst (λ (b : Bank). VoiceIs v b p) (sym (t e .1)) (i .voice); samples = i .samples; count = i .count }
 
@@ -236,6 +237,7 @@ module _ (E : Engine) (laws : Laws E) (n : ℕ) where
       go false = omega arith
   count-step (callPark written) v r fine = omega arith
   count-step (callRestore file lent) v r fine = omega arith
+  count-step (callAudition q scratch) v r fine = omega arith
   count-step (callBlock q) v r fine = omega (arith, count-frames E (frameAt E n q v) (q .frames))
 
   pub count-steps : (xs : List (Call S)) (v : ℕ) (r : Run) → framesRendered (run E n xs r .log) ≡ framesRendered (r .log) + frameCount (feed E n v xs r)

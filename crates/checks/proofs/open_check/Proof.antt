@@ -1,30 +1,15 @@
--- `checks::open_check` meets its contract: at each return the tests before it passed, and this one did not. The products are small, as
--- the setup was accepted.
-use mathlib.Core.Path.{sym}
-use Prim.Native.Nat.{_*_, _≤_}
-use native.Mathlib.Omega.{arith}
-use borrow.Author.Tests.{eq-eqb, ne-eqb}
+-- `checks::open_check` meets its contract: the setup's checks, and then the lists'.
+use mathlib.Core.Path.{sym, _∙_}
 use borrow.Author.Needs.{needs}
-use Rattle.voices.specs.Calls.{check, _then_}
-use Rattle.checks.specs.Setup.{soloOf}
+use Rattle.voices.specs.Calls.{check}
 use Rattle.checks.specs.Checks.{checkOf}
-use Rattle.setups.specs.Accepted.{SetupAccepted, setup-accepted}
 use Rattle.checks.specs.Accepted.{refused-by, fine-by}
-use Rattle.checks.proofs.Laws.{after-refused}
+use Rattle.checks.proofs.Laws.{passes, fails, after-refused, after-fine}
 use Rattle.checks.proofs.open_check.Statement.{statement}
 use Rattle.checks.proofs.open_check.Tie as tie
 
-known : (c : tie.After-enum-told) → SetupAccepted (soloOf (c .before .before .before .before .before .before .args .setup)) (c .before .before .before .before .before .before .args .setup .voices)
-known c = setup-accepted _ _ (fine-by (c .before .before .setup-check .ensures) (c .enum-told .given .1))
-
-mul-if3 : tie.Need-mul-if3
-mul-if3 c =
-    let a = c .before .before .before .before .before .before .before .before .before .before .before .args in
-    let h : a .setup .channels * a .setup .voices * c .ring-len .result ≤ 2097152 = rw (c .ring-len .ensures) (known (c .before .before .before .before .before) .rings) in
-    omega arith
-
 pub open-check-spec : {M : Type 1} → statement M
-unfolding checkOf check _then_
+unfolding checkOf check
 open-check-spec =
     tie.close
     (tie.spec
@@ -32,12 +17,6 @@ open-check-spec =
     (λ c. search needs)
     (λ c. sym (after-refused _ _ (refused-by (c .before .before .before .setup-check .ensures) (c .before .first .given .1))))
     (λ c. search needs)
-    (λ c. omega (arith, known (c .before) .slots))
-    (λ c. omega (arith, known (c .before .before) .voices))
-    (λ c. rw (fine-by (c .before .before .before .before .before .setup-check .ensures) (c .before .before .before .enum-told .given .1), ne-eqb _ _ (c .if1 .taken)))
-    (λ c. omega (arith, known (c .before .before .before) .slots))
-    (λ c. rw (fine-by (c .before .before .before .before .before .before .setup-check .ensures) (c .before .before .before .before .enum-told .given .1), eq-eqb _ _ (c .before .if1 .left), ne-eqb _ _ (c .if2 .taken)))
-    (λ c κs. tt)
-    mul-if3
-    (λ c. rw (fine-by (c .before .before .before .before .before .before .before .before .setup-check .ensures) (c .before .before .before .before .before .before .enum-told .given .1), eq-eqb _ _ (c .before .before .before .if1 .left), eq-eqb _ _ (c .before .before .if2 .left), ← c .before .ring-len .ensures, ne-eqb _ _ (c .if3 .taken)))
-    (λ c. rw (fine-by (c .before .before .before .before .before .before .before .before .setup-check .ensures) (c .before .before .before .before .before .before .enum-told .given .1), eq-eqb _ _ (c .before .before .before .if1 .left), eq-eqb _ _ (c .before .before .if2 .left), ← c .before .ring-len .ensures, eq-eqb _ _ (c .if3 .left))))
+    (λ c κs. fine-by (c .before .before .setup-check .ensures) (c .enum-told .given .1))
+    (λ c. sym (after-fine _ _ (fine-by (c .before .before .before .before .setup-check .ensures) (c .before .before .enum-told .given .1)) ∙ rw (fails (c .if1 .taken) (c .before .are-long .ensures))))
+    (λ c. sym (after-fine _ _ (fine-by (c .before .before .before .before .setup-check .ensures) (c .before .before .enum-told .given .1)) ∙ rw (passes (c .if1 .left) (c .before .are-long .ensures)))))

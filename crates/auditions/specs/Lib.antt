@@ -1,0 +1,3 @@
+-- To be read: Audition, and the statements of Committed.
+pub mod Audition
+pub mod Committed
