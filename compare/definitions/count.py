@@ -20,7 +20,7 @@ FILES = {
         """,
     "the bank": """
         voices/specs/Calls.antt voices/specs/Feed.antt setups/specs/Setup.antt slots/specs/Engine.antt checks/specs/Setup.antt
-        checks/specs/Checks.antt bank/specs/Bank.antt bank/specs/Demand3.antt
+        checks/specs/Checks.antt bank/specs/Bank.antt auditions/specs/Audition.antt bank/specs/Demand3.antt
         """,
     "a parked file": """
         file_words/specs/Words.antt blocks/specs/Blocks.antt places/specs/Places.antt rows/specs/Rows.antt files/specs/File.antt

@@ -1,19 +1,18 @@
 -- Demand 3 at the bank's engine (document 01, 'A voice from its feed'; document 02, C-11: counts are compared too; C-12 and C-16: lists with park,
--- restore and audition): the two statements, then their proofs from voices/specs/Voice and the engine's laws. Assumes nothing.
-use mathlib.Core.Path.{_≡_, refl, subst}
+-- restore and audition): the two statements, then their proofs from voices/specs/Voice and the engine's laws. That a call
+-- in a list does what its contract says of a bank alone is voices/specs/Alone. Assumes nothing.
+use mathlib.Core.Path.{_≡_, subst}
 use Prim.Native.Nat.{ℕ, _<_}
-use mathlib.Core.List.{List, _++_}
+use mathlib.Core.List.{List}
 use Rattle.filter.specs.declared.VoiceParams.{VoiceParams}
 use Rattle.slots.specs.Engine.{engineOf}
 use Rattle.setups.specs.Setup.{SoloSetup}
 use Rattle.slots.specs.Laws.{engine-laws}
-use Rattle.voices.specs.Calls.{Check, fine, refused, Engine, Bank, Call, callSet, callStart, callBlock, callPark, callRestore, callAudition, Run}
-use Rattle.voices.specs.Calls.{openVerdict, verdict, perform, call, opened, run, Returning}
+use Rattle.voices.specs.Calls.{fine, Bank, Call, Run, openVerdict, opened, run, Returning}
 use Rattle.voices.specs.Feed.{Event, feed, Same, Alike}
 use Rattle.voices.specs.Voice.{theorem, corollary}
 use Rattle.checks.specs.declared.Setup.{Setup}
 use Rattle.checks.specs.Setup.{soloOf, engine}
-use Rattle.bank.specs.Bank.{before}
 
 -- the bank that opened by the setup s on lent lists b, and after any calls xs, refused or not
 abbrev pub bankOpened : Setup → Bank → Run
@@ -67,21 +66,3 @@ two-setups s t e =
     → feedOf s v b xs ≡ feed (engineOf o) (t .voices) u ys (opened (engineOf o) (t .voices) d)
     → Alike (engine s) (s .voices) (t .voices) v u (bankAfter s b xs) (run (engineOf o) (t .voices) ys (opened (engineOf o) (t .voices) d)))
     e (corollary (engine s) (engine-laws (soloOf s)) (s .voices) (t .voices))
-
--- ---- the contracts of set, start and block speak of a bank alone; in a list a call leaves the same bank and adds its answer to the log
-
--- the run r with one more run after it
-abbrev pub onto : Run → Run → Run
-onto r one = record { bank = one .bank; log = one .log ++ r .log }
-
-pub call-from : (E : Engine) (n : ℕ) (x : Call (E .S)) (r : Run) → call E n x r ≡ onto r (call E n x (before (r .bank)))
-call-from E n x r = go (verdict E n x (r .bank)) x
-  where
-    go : (w : Check) (x : Call (E .S)) → perform E n w x r ≡ onto r (perform E n w x (before (r .bank)))
-    go (refused k) x = refl
-    go fine (callSet v s) = refl
-    go fine (callStart v) = refl
-    go fine (callBlock q) = refl
-    go fine (callPark written) = refl
-    go fine (callRestore file lent) = refl
-    go fine (callAudition q lent) = refl

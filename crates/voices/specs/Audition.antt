@@ -4,10 +4,11 @@ use mathlib.Core.Path.{_≡_, refl, sym, ap, ap₂, _∙_}
 use Prim.Native.Nat.{ℕ}
 use mathlib.Core.List.{List, [], _∷_, _++_}
 use lib.Ieee.{Float}
-use Rattle.voices.specs.Calls.{Check, fine, refused, check, _then_, Engine, Bank, Block, Call, callSet, callStart, callBlock, callPark, callRestore}
-use Rattle.voices.specs.Calls.{callAudition, Answer, refusedCall, kept, rendered, auditioned, Run, areLong, verdict, perform, call, run}
+use Rattle.voices.specs.Calls.{Check, fine, refused, check, _then_, Engine, Bank, Block, Call, callBlock, callAudition, Answer}
+use Rattle.voices.specs.Calls.{refusedCall, kept, rendered, auditioned, Run, areLong, verdict, perform, call, run}
 use Rattle.voices.specs.Feed.{Event, events, feed}
 use Rattle.voices.specs.Accepted.{audition-accepted}
+use Rattle.voices.specs.Alone.{call-from}
 
 module _ (E : Engine) (n : ℕ) where
   open Engine E using (S, channels, ringLength)
@@ -55,29 +56,30 @@ module _ (E : Engine) (n : ℕ) where
   unfolding _then_
   scratch-last q lent b = (λ k e. rw e, λ e. rw e)
 
-  -- the block that an audition's answer tells of, after the answers l
-  abbrev blockOfAudition : List Answer → List Answer → Run → Run
-  blockOfAudition (auditioned scratch frames audio counts ∷ a) l r = record { bank = scratch; log = rendered (scratch .cursor) frames audio counts ∷ l }
-  blockOfAudition (refusedCall k ∷ a) l r = r
-  blockOfAudition (kept cursor ∷ a) l r = r
-  blockOfAudition (rendered cursor frames audio counts ∷ a) l r = r
-  blockOfAudition [] l r = r
+  -- the run r with other answers so far
+  abbrev withLog : List Answer → Run → Run
+  withLog l r = record { bank = r .bank; log = l }
+
+  -- the block that an audition's answer tells of, after the run r
+  abbrev blockHeard : List Answer → Run → Run
+  blockHeard (auditioned scratch frames audio counts ∷ l) r = committed r scratch frames audio counts
+  blockHeard (refusedCall k ∷ l) r = r
+  blockHeard (kept cursor ∷ l) r = r
+  blockHeard (rendered cursor frames audio counts ∷ l) r = r
+  blockHeard [] r = r
 
   as-heard : (q : Block) (lent : Bank) (r : Run) (scratch : Bank) (frames : ℕ) (audio : List Float) (counts : List ℕ)
       → Heard q lent r scratch frames audio counts
-      → (l : List Answer)
-      → call E n (callBlock q) (record { bank = r .bank; log = l }) ≡ record { bank = scratch; log = rendered (scratch .cursor) frames audio counts ∷ l }
-  as-heard q lent r scratch frames audio counts h l = go (verdict E n (callAudition q lent) (r .bank)) refl h
+      → (l : List Answer) → call E n (callBlock q) (withLog l r) ≡ committed (withLog l r) scratch frames audio counts
+  as-heard q lent r scratch frames audio counts h l = go (verdict E n (callAudition q lent) (r .bank)) refl (ap (λ (w : Run). w .log) h)
     where
       go : (k : Check) → verdict E n (callAudition q lent) (r .bank) ≡ k
-          → perform E n k (callAudition q lent) r ≡ record { bank = r .bank; log = auditioned scratch frames audio counts ∷ r .log }
-          → call E n (callBlock q) (record { bank = r .bank; log = l }) ≡ record { bank = scratch; log = rendered (scratch .cursor) frames audio counts ∷ l }
-      go (refused k) e p =
-          let z : refusedCall k ∷ r .log ≡ auditioned scratch frames audio counts ∷ r .log = ap (λ (w : Run). w .log) p in
-          cc
+          → perform E n k (callAudition q lent) r .log ≡ auditioned scratch frames audio counts ∷ r .log
+          → call E n (callBlock q) (withLog l r) ≡ committed (withLog l r) scratch frames audio counts
+      go (refused k) e p = cc
       go fine e p =
-          ap (λ (k : Check). perform E n k (callBlock q) (record { bank = r .bank; log = l })) (audition-accepted E n q lent (r .bank) e .block)
-          ∙ ap (λ (w : Run). blockOfAudition (w .log) l r) p
+          ap (λ (k : Check). perform E n k (callBlock q) (withLog l r)) (audition-accepted E n q lent (r .bank) e .block)
+          ∙ ap (λ (a : List Answer). blockHeard a (withLog l r)) p
 
   pub block-as-heard : BlockAsHeard
   block-as-heard q lent r scratch frames audio counts h =
@@ -89,20 +91,11 @@ module _ (E : Engine) (n : ℕ) where
   from-scratch q lent r scratch frames audio counts xs h = ap (run E n xs) (sym (as-heard q lent r scratch frames audio counts h (r .log)))
 
   -- what a call makes of a bank, and what it feeds, does not follow from the answers before it
-  bank-of : (x : Call S) (r : Run) → call E n x r .bank ≡ call E n x (record { bank = r .bank; log = [] }) .bank
-  bank-of x r = go (verdict E n x (r .bank)) x
-    where
-      go : (k : Check) (x : Call S) → perform E n k x r .bank ≡ perform E n k x (record { bank = r .bank; log = [] }) .bank
-      go (refused k) x = refl
-      go fine (callSet v s) = refl
-      go fine (callStart v) = refl
-      go fine (callBlock q) = refl
-      go fine (callPark written) = refl
-      go fine (callRestore file lent) = refl
-      go fine (callAudition q lent) = refl
-
   call-bank : (x : Call S) (r s : Run) → r .bank ≡ s .bank → call E n x r .bank ≡ call E n x s .bank
-  call-bank x r s e = bank-of x r ∙ ap (λ (b : Bank). call E n x (record { bank = b; log = [] }) .bank) e ∙ sym (bank-of x s)
+  call-bank x r s e =
+      ap (λ (w : Run). w .bank) (call-from E n x r)
+      ∙ ap (λ (b : Bank). call E n x (record { bank = b; log = [] }) .bank) e
+      ∙ sym (ap (λ (w : Run). w .bank) (call-from E n x s))
 
   run-bank : (xs : List (Call S)) (r s : Run) → r .bank ≡ s .bank → run E n xs r .bank ≡ run E n xs s .bank
   run-bank [] r s e = e

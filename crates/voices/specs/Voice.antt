@@ -1,5 +1,5 @@
--- Demand 3 (document 01, 'A voice from its feed'; document 02, C-12: lists with park and restore), over any engine whose ticks keep lengths: its
--- two statements, then their proofs. The first follows from `open-own`, `steps` and `count-steps` of Steps, the second from the first for each
+-- Demand 3 (document 01, 'A voice from its feed'; document 02, C-12 and C-16: lists with park, restore and audition), over any engine whose ticks keep
+-- lengths: its two statements, then their proofs. The first follows from `open-own`, `steps` and `count-steps` of Steps, the second from the first for each
 -- bank. Assumes nothing.
 use mathlib.Core.Path.{_≡_, refl, sym, ap, _∙_}
 use Prim.Native.Nat.{ℕ, _<_}
