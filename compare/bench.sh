@@ -7,7 +7,7 @@ usage="usage: bench.sh [silence | park | audition] [--before ARCHIVE] [--oracle 
   silence          the table of silence alone
   park             the table of parking and restoring alone
   audition         the table of auditions beside their blocks alone
-  --before ARCHIVE an earlier libsentivolus.a, from version 200 on, beside this one and the Rust: its table and the roots alone (needs nm and objcopy)
+  --before ARCHIVE an earlier libsentivolus.a, from version 200 on, beside this one and the Rust: its table, a block of one frame and the roots alone (needs nm and objcopy)
   --oracle FOLDER  the folder that holds assemble.py (../shared/oracle beside the repository)"
 tables=() oracle=$timed before=
 while [ $# -gt 0 ]; do

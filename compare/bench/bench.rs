@@ -476,6 +476,10 @@ fn grid(millis: u128) {
 #[cfg(before)]
 fn before(millis: u128) {
     let width = if unsafe { before_sentivolus_version() } <= 600 { WITHOUT_PEAK } else { RECORD };
+    let each = |c: &Case| {
+        let blocks: [Block; 2] = [(block_before, width), OURS];
+        measure_each(c, millis, false, blocks)
+    };
     println!("| code | pitch | voices x channels / frames: before, after, Rust (after over before) | | | |");
     println!("|---|---|---|---|---|---|");
     println!("| | | 1x1/64 | 1x1/4096 | 16x2/64 | 16x2/4096 |");
@@ -484,13 +488,17 @@ fn before(millis: u128) {
             let mut row = format!("| {code} {:?} | {}", KINDS[code as usize - 1], if moving { "moving" } else { "held" });
             for (v, n) in [(1, 1), (16, 2)] {
                 for frames in [64, 4096] {
-                    let blocks: [Block; 2] = [(block_before, width), OURS];
-                    let ([a, b], rust) = measure_each(&case(code, 48000.0, v, n, frames, moving), millis, false, blocks);
+                    let ([a, b], rust) = each(&case(code, 48000.0, v, n, frames, moving));
                     row += &format!(" | {a:.1}, {b:.1}, {rust:.1} ({:.3})", b / a);
                 }
             }
             println!("{row} |");
         }
+    }
+    println!();
+    for code in [2, 9] {
+        let ([a, b], rust) = each(&case(code, 48000.0, 1, 1, 1, false));
+        println!("A block of one frame, 1x1, {:?}: before {a:.1} ns, after {b:.1} ns, Rust {rust:.1} ns", KINDS[code as usize - 1]);
     }
     let [before, after, machine] = measure_roots([time_before, time_ours, time_machine]);
     println!();
