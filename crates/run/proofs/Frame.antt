@@ -13,11 +13,12 @@ use Rattle.filter.specs.Voice.{«MORPH_X», «MORPH_Y»}
 use Rattle.extended.specs.Extended.{unitOr0}
 use Rattle.kernels.specs.Contracts.{KernelLeaves}
 use Rattle.voices.specs.Calls.{targetsWidth, statesWidth}
+use Rattle.peak.specs.Peak.{peakOf}
 use Rattle.run.specs.declared.Controls.{Controls}
 use Rattle.run.specs.declared.FrameInput.{FrameInput}
 use Rattle.run.specs.declared.Sample.{Sample}
 use Rattle.run.specs.declared.Structure.{Structure}
-use Rattle.run.specs.Run.{smoothOf, offsetOf, steeredX, steeredY, controlsOf, mixOf, PEAK, peakOf, tickWith}
+use Rattle.run.specs.Run.{smoothOf, offsetOf, steeredX, steeredY, controlsOf, mixOf, PEAK, tickWith}
 use Rattle.run.specs.Contracts.{kernelOn, overOn, tickOn, TickLeaves, recordOf, Widths}
 
 module _ (m : Structure) (sections : List Float) (at : Ring) (f : FrameInput) (targets params state : List Float) (peak : Float) (delay : List Float) where

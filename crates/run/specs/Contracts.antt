@@ -17,7 +17,7 @@ use Rattle.run.specs.declared.FrameInput.{FrameInput}
 use Rattle.run.specs.declared.Sample.{Sample}
 use Rattle.run.specs.declared.Structure.{Structure}
 use Rattle.run.specs.Run.{kernelTick, overTick, tickWith}
-use Rattle.run.specs.Running.{settledOf}
+use Rattle.peak.specs.Running.{settledOf}
 
 -- the setup's table
 abbrev pub tableFor : Structure → (sections : List Float) → Table

@@ -1,7 +1,5 @@
 -- To be read: Run.
 pub mod Run
-pub mod Peak
-pub mod Running
 pub mod Contracts
 pub mod Laws
 pub mod Unsteered

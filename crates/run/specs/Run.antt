@@ -10,10 +10,11 @@ use lib.Seq.{sets}
 use lib.Ieee.{Float, neg}
 use Rattle.parts.specs.Parts.{tab}
 use Rattle.lane.specs.Floats.{_⊕_, _⊖_, _⊗_, _⊘_, _‼_, fma, decimal, whole, zero, one}
-use Rattle.lane.specs.Lane.{maxOf, expOf, pow10Of, softClip}
+use Rattle.lane.specs.Lane.{expOf, pow10Of, softClip}
 use Rattle.filter.specs.Voice.{RES, DRIVE, «DRIVE_GAIN», «INV_KNEE», OFFSET, MIX, LEVEL, CHARACTER, «MORPH_X», «MORPH_Y»}
 use Rattle.extended.specs.declared.Settings.{Settings}
-use Rattle.extended.specs.Extended.{unitOr0, absOf, smoothMark}
+use Rattle.extended.specs.Extended.{unitOr0, smoothMark}
+use Rattle.peak.specs.Peak.{peakOf}
 use Rattle.pole_zero.specs.declared.Table.{Table}
 use Rattle.kernels.specs.Kernels.{Kernel, kernelOf, overCount}
 use Rattle.voices.specs.Calls.{Tick, Steering, targetsWidth, statesWidth}
@@ -134,12 +135,9 @@ settingsOf k params at =
 unfoldable pub mixOf : (params : List Float) (input wet : Float) → Float
 mixOf params input wet = fma wet (params ‼ MIX) (input ⊗ (one ⊖ params ‼ MIX)) ⊗ params ‼ LEVEL
 
--- C-15: where the record has the slot's peak, and the peak after a frame whose sample, after mix and level, is `out`
+-- C-15: where the record has the slot's peak, which `peakOf` raises by the frame's sample, after mix and level
 abbrev pub PEAK : ℕ
 PEAK = targetsWidth + statesWidth
-
-unfoldable pub peakOf : (peak out : Float) → Float
-peakOf peak out = maxOf peak (absOf out)
 
 -- ---- the frame
 

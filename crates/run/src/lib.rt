@@ -8,11 +8,8 @@ ghost use Rattle.lines.specs.Ring.{StandsIn};
 ghost use Rattle.kernels.specs.Contracts.{KernelLeaves};
 ghost use Rattle.run.specs.Run.{cleanDrive, constantsOf, signOf, smoothOf, lagShare, lagged, lagState, controlsAfter, stateAfter};
 ghost use Rattle.run.specs.Run.{drivenOf, settingsOf, mixOf};
-ghost use Rattle.run.specs.Running.{Runs};
+ghost use Rattle.peak.specs.Running.{Runs};
 ghost use Rattle.run.specs.Contracts.{Keeps, kernelOn, overOn, tickOn, TickLeaves, Widths, heldRecord};
-
-pub mod peak;
-
 use extended::Settings;
 use filter::Pitch;
 use filter::Ratio;

@@ -10,7 +10,7 @@ use lib.Seq.{take-add, take-suc, take-at, drop-drop, getD-drop, getD-at, getD-se
 use Rattle.lane.specs.Floats.{_‼_}
 use Rattle.parts.specs.Parts.{piece, patch}
 use Rattle.run.specs.Run.{PEAK}
-use Rattle.run.specs.Running.{runningOf, settledOf}
+use Rattle.peak.specs.Running.{runningOf, settledOf}
 use Rattle.run.specs.Contracts.{recordOf, heldRecord}
 use Rattle.voices.specs.Calls.{targetsWidth, statesWidth, recordWidth}
 

@@ -9,7 +9,7 @@ ghost use Rattle.parts.specs.Parts.{upto, patch};
 ghost use Rattle.lane.specs.Floats.{_‼_, zero};
 ghost use Rattle.extended.specs.Extended.{linesMark};
 ghost use Rattle.voices.specs.Calls.{recordWidth, statesWidth, blockOf};
-ghost use Rattle.run.specs.Running.{runningOf, settledOf, Runs};
+ghost use Rattle.peak.specs.Running.{runningOf, settledOf, Runs};
 ghost use Rattle.run.specs.Contracts.{Keeps, Widths, recordOf};
 ghost use Rattle.slots.specs.Slots.{engineAt, blockOn, bankAt, blockRun, slotRun, Worked, Placed, Buffers, Lists};
 ghost use Rattle.slots.specs.Slots.{frameIn, slotIn, channelIn};
@@ -298,7 +298,7 @@ fn hold_peak(records: &mut [f32], at: usize) -> f32
         × (Runs r (runningOf r)) × (settledOf r (runningOf r) ≡ r) ⌝ }
 {
     let peak = records[at];
-    if run::peak::is_plain(peak) {
+    if peak::is_plain(peak) {
         return peak;
     }
     records[at] = -1.0;
@@ -352,7 +352,7 @@ fn run_slot(
         audio,
         p,
     );
-    let after = run::peak::settled(peak, records[at + PEAK]);
+    let after = peak::settled(peak, records[at + PEAK]);
     store_record(records, p.number, &params, &state, after);
     let slot = p.number;
     counts[slot] = count;

@@ -7,7 +7,7 @@ use lib.ListN.{length}
 use Rattle.lane.specs.Floats.{_‼_, fma}
 use Rattle.filter.specs.Voice.{OFFSET}
 use Rattle.run.specs.Run.{offsetOf}
-use Rattle.run.specs.Running.{settledOf}
+use Rattle.peak.specs.Running.{settledOf}
 use Rattle.run.specs.Laws.{smooth-length, kernel-tick-kept, few-over}
 use Rattle.run.proofs.Frame.{frame}
 use Rattle.run.proofs.tick.Statement.{statement}

@@ -9,7 +9,7 @@ use lib.Ieee.{Float, neg, nan, round, ofBits}
 use lib.ListN.{set, length-set}
 use lib.Seq.{set-getD}
 use Rattle.lane.specs.Floats.{_‼_, one}
-use Rattle.run.specs.Running.{isPlain, runningOf}
+use Rattle.peak.specs.Running.{isPlain, runningOf}
 use Rattle.slots.proofs.hold_peak.Statement.{statement}
 use Rattle.slots.proofs.hold_peak.Tie as tie
 

@@ -9,7 +9,7 @@ use denote.Ref.{now}
 use lib.Ieee.{Float}
 use lib.ListN.{length}
 use Rattle.parts.specs.Parts.{upto}
-use Rattle.run.specs.Running.{Runs}
+use Rattle.peak.specs.Running.{Runs}
 use Rattle.run.specs.Contracts.{Keeps, Widths}
 use Rattle.voices.specs.Calls.{SlotRun}
 use Rattle.slots.specs.Slots.{slotRun, frameIn}

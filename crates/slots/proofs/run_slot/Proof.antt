@@ -13,7 +13,7 @@ use Rattle.lane.specs.Floats.{_‼_}
 use Rattle.kernels.specs.Contracts.{Kept, KeptSections}
 use Rattle.run.specs.declared.Structure.{Structure}
 use Rattle.run.specs.Run.{PEAK}
-use Rattle.run.specs.Running.{settledOf, Runs}
+use Rattle.peak.specs.Running.{settledOf, Runs}
 use Rattle.run.specs.Contracts.{Keeps, recordOf, heldRecord}
 use Rattle.voices.specs.Calls.{targetsWidth, recordWidth}
 use Rattle.slots.specs.Slots.{engineAt, blockAt, blockRun}

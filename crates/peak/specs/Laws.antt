@@ -8,7 +8,7 @@ use lib.Ieee.Fits.{neg-fits}
 use Rattle.lane.specs.Lane.{isBelow, maxOf}
 use Rattle.lane.specs.Order.{max-nan, max-either}
 use Rattle.extended.specs.Extended.{absOf}
-use Rattle.run.specs.Run.{peakOf}
+use Rattle.peak.specs.Peak.{peakOf}
 
 -- a float with its sign cleared
 abbrev pub unsigned : Float → Float

@@ -1,8 +1,8 @@
--- `run::peak::settled` meets its contract: by its comparisons.
+-- `peak::settled` meets its contract: by its comparisons.
 use lib.Ieee.{round, ofBits}
-use Rattle.run.specs.Running.{settledOf}
-use Rattle.run.proofs.peak.settled.Statement.{statement}
-use Rattle.run.proofs.peak.settled.Tie as tie
+use Rattle.peak.specs.Running.{settledOf}
+use Rattle.peak.proofs.settled.Statement.{statement}
+use Rattle.peak.proofs.settled.Tie as tie
 
 pub settled-spec : {M : Type 1} → statement M
 unfolding settledOf round ofBits

@@ -17,8 +17,8 @@ use Rattle.lane.specs.Floats.{zero, one}
 use Rattle.lane.specs.Lane.{isPlusZero, isMinusZero, isBelow, maxOf}
 use Rattle.lane.specs.Order.{maxIn01, max-nan, max-moved}
 use Rattle.lane.specs.Compared.{max-compared}
-use Rattle.run.specs.Run.{peakOf}
-use Rattle.run.specs.Peak.{unsigned, abs-unsigned, max-inf}
+use Rattle.peak.specs.Peak.{peakOf}
+use Rattle.peak.specs.Laws.{unsigned, abs-unsigned, max-inf}
 
 -- a number without sign
 unfoldable pub isPlain : Float → Bool

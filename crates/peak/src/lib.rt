@@ -3,8 +3,8 @@
 ghost use mathlib.Core.Path.{_≡_};
 ghost use mathlib.Core.Bool.{cond};
 ghost use lib.Ieee.{Float, lt};
-ghost use Rattle.run.specs.Run.{peakOf};
-ghost use Rattle.run.specs.Running.{isPlain, runningOf, settledOf, Runs};
+ghost use Rattle.peak.specs.Peak.{peakOf};
+ghost use Rattle.peak.specs.Running.{isPlain, runningOf, settledOf, Runs};
 
 // Whether a peak is a number without sign, which runs itself.
 pub fn is_plain(peak: f32) -> bool

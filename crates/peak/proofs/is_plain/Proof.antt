@@ -1,4 +1,4 @@
--- `run::peak::is_plain` meets its contract: by its tests; the rest is `begins`. Assumes nothing.
+-- `peak::is_plain` meets its contract: by its tests; the rest is `begins`. Assumes nothing.
 use mathlib.Core.Path.{_≡_, refl, sym, ap, _∙_, subst}
 use mathlib.Core.Bool.{Bool, true, false, not, _&&_}
 use lib.Dec.{T}
@@ -6,9 +6,9 @@ use lib.Ieee.{Float, binary32, fits, lt, ne, round, ofBits}
 use Rattle.bits.specs.Nan.{nan-is}
 use Rattle.lane.specs.Floats.{zero}
 use Rattle.lane.specs.Lane.{isMinusZero}
-use Rattle.run.specs.Running.{isPlain, runningOf, settledOf, Runs, begins}
-use Rattle.run.proofs.peak.is_plain.Statement.{statement}
-use Rattle.run.proofs.peak.is_plain.Tie as tie
+use Rattle.peak.specs.Running.{isPlain, runningOf, settledOf, Runs, begins}
+use Rattle.peak.proofs.is_plain.Statement.{statement}
+use Rattle.peak.proofs.is_plain.Tie as tie
 
 good : (c : tie.Start) → T (fits binary32 (c .args .peak))
 good c = subst T (sym (c .good .0 .1)) tt

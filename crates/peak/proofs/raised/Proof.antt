@@ -1,12 +1,12 @@
--- `run::peak::raised` meets its contract: its comparisons are the definition's, which runs on (`raises`).
+-- `peak::raised` meets its contract: its comparisons are the definition's, which runs on (`raises`).
 use mathlib.Core.Path.{_≡_, sym, ap, _∙_, subst}
 use mathlib.Core.Bool.{cond}
 use lib.Dec.{T}
 use lib.Ieee.{Float, binary32, fits, lt, neg}
-use Rattle.run.specs.Run.{peakOf}
-use Rattle.run.specs.Running.{raisedOf, settledOf, Runs, raises}
-use Rattle.run.proofs.peak.raised.Statement.{statement}
-use Rattle.run.proofs.peak.raised.Tie as tie
+use Rattle.peak.specs.Peak.{peakOf}
+use Rattle.peak.specs.Running.{raisedOf, settledOf, Runs, raises}
+use Rattle.peak.proofs.raised.Statement.{statement}
+use Rattle.peak.proofs.raised.Tie as tie
 
 good : (c : tie.Start) → T (fits binary32 (c .args .out))
 good c = subst T (sym (c .good .1 .0 .1)) tt
