@@ -4,7 +4,7 @@ use Prim.Native.Nat.{ℕ}
 use mathlib.Core.List.{List, [], _∷_}
 use lib.Ieee.{Float}
 use Rattle.voices.specs.Calls.{Bank, Block, rendered, Run}
-use Rattle.voices.specs.Audition.{BlockAsHeard, FromScratch, Anywhere, block-as-heard, from-scratch, anywhere}
+use Rattle.voices.specs.Audition.{committed, BlockAsHeard, FromScratch, Anywhere, block-as-heard, from-scratch, anywhere}
 use Rattle.checks.specs.declared.Setup.{Setup}
 use Rattle.checks.specs.Setup.{engine}
 use Rattle.checks.specs.Checks.{bankOf}
@@ -15,7 +15,8 @@ use Rattle.bank.specs.Answers.{newest, rendered-is}
 use Rattle.auditions.specs.Audition.{auditionAnswer, AuditionDoes}
 
 -- a block answered and left what the scratch, the audio and the counts of an audition show
-pub record Committed (r : CodeAnswer) (tg rs ds audio : List Float) (counts : List ℕ) (r' : CodeAnswer) (tg' rs' ds' audio' : List Float) (counts' : List ℕ) : Type 0 where
+pub record Committed (r : CodeAnswer) (tg rs ds audio : List Float) (counts : List ℕ)
+    (r' : CodeAnswer) (tg' rs' ds' audio' : List Float) (counts' : List ℕ) : Type 0 where
   pub answer' : r' ≡ r
   pub targets' : tg' ≡ tg
   pub records' : rs' ≡ rs
@@ -44,8 +45,9 @@ in-lists s = (block-as-heard (engine s) (s .voices), from-scratch (engine s) (s 
 pub committed-as-heard : (s : Setup) → CommittedAsHeard s
 unfolding auditionAnswer
 committed-as-heard s q lent b cursor frames tg rs ds audio rs' ds' audio' counts counts' r' a d =
-    let e : after r' (b .cursor) (b .targets) rs' ds' audio' counts' ≡ record { bank = bankOf tg rs ds cursor; log = rendered cursor frames audio counts ∷ [] } =
-    d .does ∙ sym (from-scratch (engine s) (s .voices) q lent (before b) (bankOf tg rs ds cursor) frames audio counts [] (sym (a .does))) in
+    let scratch = bankOf tg rs ds cursor in
+    let e : after r' (b .cursor) (b .targets) rs' ds' audio' counts' ≡ committed (engine s) (s .voices) (before b) scratch frames audio counts =
+    d .does ∙ sym (from-scratch (engine s) (s .voices) q lent (before b) scratch frames audio counts [] (sym (a .does))) in
     let h = rendered-is r' cursor frames audio' audio counts' counts (ap newest e) in
     record {
       answer' = h .0;

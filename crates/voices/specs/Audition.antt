@@ -119,10 +119,10 @@ module _ (E : Engine) (n : ℕ) where
   feeds-nothing q lent v fine = refl
 
   pub anywhere : Anywhere
-  anywhere q lent [] ys r = (
-    run-bank ys (call E n (callAudition q lent) r) r (keeps q lent r),
-    λ v. ap₂ _++_ (feeds-nothing q lent v (verdict E n (callAudition q lent) (r .bank))) (feed-bank v ys (call E n (callAudition q lent) r) r (keeps q lent r)),
-  )
+  anywhere q lent [] ys r =
+      let heard = call E n (callAudition q lent) r in
+      let k = verdict E n (callAudition q lent) (r .bank) in
+      (run-bank ys heard r (keeps q lent r), λ v. ap₂ _++_ (feeds-nothing q lent v k) (feed-bank v ys heard r (keeps q lent r)))
   anywhere q lent (x ∷ xs) ys r =
       let i = anywhere q lent xs ys (call E n x r) in
       (i .0, λ v. ap (λ (es : List (Event S)). events E n (verdict E n x (r .bank)) v x ++ es) (i .1 v))
