@@ -14,23 +14,23 @@ use Rattle.bank.specs.Bank.{before, after, BlockDoes}
 use Rattle.bank.specs.Answers.{newest, rendered-is}
 use Rattle.auditions.specs.Audition.{auditionAnswer, AuditionDoes}
 
--- a block answered and left what the scratch, the audio and the counts of an audition show
-pub record Committed (r : CodeAnswer) (tg rs ds audio : List Float) (counts : List ℕ)
-    (r' : CodeAnswer) (tg' rs' ds' audio' : List Float) (counts' : List ℕ) : Type 0 where
-  pub answer' : r' ≡ r
-  pub targets' : tg' ≡ tg
-  pub records' : rs' ≡ rs
-  pub delay' : ds' ≡ ds
-  pub audio'' : audio' ≡ audio
-  pub counts'' : counts' ≡ counts
+-- a block answered and left (r', ..) what the answer, the scratch, the audio and the counts of an audition show (r, ..)
+pub record Committed (r : CodeAnswer) (tg rs ds au : List Float) (cs : List ℕ)
+    (r' : CodeAnswer) (tg' rs' ds' au' : List Float) (cs' : List ℕ) : Type 0 where
+  pub answer : r' ≡ r
+  pub targets : tg' ≡ tg
+  pub records : rs' ≡ rs
+  pub delay : ds' ≡ ds
+  pub audio : au' ≡ au
+  pub counts : cs' ≡ cs
 
 -- Where an audition of q was accepted, the block q gives the same answer, audio and counts, and leaves the bank as the scratch is.
 abbrev pub CommittedAsHeard : Setup → Type 0
 CommittedAsHeard s =
-    (q : Block) (lent b : Bank) (cursor frames : ℕ) (tg rs ds audio rs' ds' audio' : List Float) (counts counts' : List ℕ) (r' : CodeAnswer)
-    → AuditionDoes s q lent b (Rendered cursor frames) tg rs ds audio counts
-    → BlockDoes s q b r' rs' ds' audio' counts'
-    → Committed (Rendered cursor frames) tg rs ds audio counts r' (b .targets) rs' ds' audio' counts'
+    (q : Block) (lent b : Bank) (cursor frames : ℕ) (tg rs ds au rs' ds' au' : List Float) (cs cs' : List ℕ) (r' : CodeAnswer)
+    → AuditionDoes s q lent b (Rendered cursor frames) tg rs ds au cs
+    → BlockDoes s q b r' rs' ds' au' cs'
+    → Committed (Rendered cursor frames) tg rs ds au cs r' (b .targets) rs' ds' au' cs'
 
 -- In lists of calls on the bank (voices/specs/Audition): after an audition the block is as heard, to go on from the scratch is having committed it, and
 -- auditions may stand anywhere.
@@ -44,16 +44,16 @@ in-lists s = (block-as-heard (engine s) (s .voices), from-scratch (engine s) (s 
 
 pub committed-as-heard : (s : Setup) → CommittedAsHeard s
 unfolding auditionAnswer
-committed-as-heard s q lent b cursor frames tg rs ds audio rs' ds' audio' counts counts' r' a d =
+committed-as-heard s q lent b cursor frames tg rs ds au rs' ds' au' cs cs' r' a d =
     let scratch = bankOf tg rs ds cursor in
-    let e : after r' (b .cursor) (b .targets) rs' ds' audio' counts' ≡ committed (engine s) (s .voices) (before b) scratch frames audio counts =
-    d .does ∙ sym (from-scratch (engine s) (s .voices) q lent (before b) scratch frames audio counts [] (sym (a .does))) in
-    let h = rendered-is r' cursor frames audio' audio counts' counts (ap newest e) in
+    let e : after r' (b .cursor) (b .targets) rs' ds' au' cs' ≡ committed (engine s) (s .voices) (before b) scratch frames au cs =
+    d .does ∙ sym (from-scratch (engine s) (s .voices) q lent (before b) scratch frames au cs [] (sym (a .does))) in
+    let h = rendered-is r' cursor frames au' au cs' cs (ap newest e) in
     record {
-      answer' = h .0;
-      targets' = ap (λ (w : Run). w .bank .targets) e;
-      records' = ap (λ (w : Run). w .bank .records) e;
-      delay' = ap (λ (w : Run). w .bank .delay) e;
-      audio'' = h .1;
-      counts'' = h .2;
+      answer = h .0;
+      targets = ap (λ (w : Run). w .bank .targets) e;
+      records = ap (λ (w : Run). w .bank .records) e;
+      delay = ap (λ (w : Run). w .bank .delay) e;
+      audio = h .1;
+      counts = h .2;
     }
