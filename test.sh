@@ -53,12 +53,11 @@ count "Rust wrapper" rust/test.sh
 count "comparison programs' tests" cargo test --quiet --release --offline --manifest-path compare/Cargo.toml
 count "leaves of the repository" compare/replay.sh check leaf crates/leaves/stdin
 count "scenarios of the repository" compare/replay.sh check run crates/scenarios/stdin
-vectors=../shared/vectors/c16 # the oracle's answers with the requests up to C-16
-parked=../shared/vectors/c15  # of parked files, which C-16 leaves as they are
+vectors=../shared/vectors/c17 # the oracle's answers with the requests up to C-17
 if [ -d "$vectors" ]; then
     for f in traps scenarios; do count "$f of the vectors beside the repository" compare/replay.sh check run "$vectors/$f.txt"; done
     count "leaves of the vectors beside the repository" compare/replay.sh check leaf "$vectors/leaves.txt"
-    count "parked files of the vectors beside the repository" compare/replay.sh check file "$parked/files.txt"
+    count "parked files of the vectors beside the repository" compare/replay.sh check file "$vectors/files.txt"
     count "Impulse on the vectors beside the repository" impulse "$vectors/impulse.txt"
 else
     echo "skipped: no vectors beside the repository"

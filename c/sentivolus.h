@@ -22,15 +22,15 @@
  *   Aliasing    What a call writes (a list, the file, *cursor, *scratch_cursor, *rendered, out, the numbers of a setup) overlaps nothing else
  *               that the call is lent: an audition's scratch is never the bank, nor a part of it.
  *   Threads     The archive has no variables. Any thread may call it; two calls at once share no list that one of them writes.
- *   Real time   No allocation, no lock, no system call. Less than 8 KiB of stack; reading a parked file (sentivolus_file_setup and
- *               sentivolus_bank_restore, and the symbols under them) less than 64 KiB, for a table of its blocks' places. The time goes
- *               with voices x channels x frames, that of parking and reading with the file's bytes; an audition copies the bank's lists
- *               besides. Numbers in the subnormal range take several times as long (docs/PERFORMANCE.md).
+ *   Real time   No allocation, no lock, no system call. Less than 12 KiB of stack; a design's table and sections less than 24 KiB; reading a
+ *               parked file (sentivolus_file_setup and sentivolus_bank_restore, and the symbols under them) less than 64 KiB, for a table of
+ *               its blocks' places. The time goes with voices x channels x frames, that of parking and reading with the file's bytes; an
+ *               audition copies the bank's lists besides. Numbers in the subnormal range take several times as long (docs/PERFORMANCE.md).
  *
  * Layouts (slot = channel * voices + voice)
  *
- *   targets     10 a voice: resonance, drive, drive gain, inverse knee, offset, mix, level, character, x, y
- *   records     31 a slot: ten smoothed numbers in the order of targets, twenty states, the peak. After each frame the peak is
+ *   targets     11 a voice: resonance, drive, drive gain, inverse knee, offset, mix, level, character, x, y, z
+ *   records     32 a slot: ten smoothed numbers in the order of targets, twenty states, the peak, the smoothed z. After each frame the peak is
  *               sentivolus_max(peak, |sample|) of the sample handed back, after mix and level. Start clears it to +0, set leaves it
  *   delay       sentivolus_ring_len(rate) a slot: the ring
  *   pitch, x, y [frame][voice]; x and y are empty in an unsteered block
@@ -39,13 +39,15 @@
  *               rate, before it was held there (equal is not over, NaN is not). A frame counts 0 or 1; with SENTIVOLUS_COMB2 0 or 2, its two reads; with
  *               SENTIVOLUS_POLE_ZERO each running section that was over, 0 to 8. With SENTIVOLUS_DJ_SWEEP the cutoff is the one that the sweep
  *               comes to, not the pitch handed in
- *   sections    160 numbers: by section, then octaves, damping, high, band, low, then the terms c, x, y, xy of each
+ *   sections    320 numbers: the face at z = 0 and then the face at z = 1, which a table of two axes ignores. A face has 160: by section, then
+ *               octaves, damping, high, band, low, then the terms c, x, y, xy of each. With three axes a section's number is A + z * (B - A), where
+ *               A and B are those of the two faces at x and y
  *   file        a parked bank, in blocks of 512 bytes, little-endian: byte 0 kind, byte 1 voice or slot, bytes 2 and 3 part; then 126 words, 0 where
  *               unused, floats as their bits, NaN as 7fc00000; then the word that makes the sum of all 128 words zero modulo 2^32.
  *               Kind 1, parts 0 and 1, byte 1 zero: code, voices, channels, clean 0 or 1, rate, reference, cursor low, cursor high, active,
- *               sections, gain. Kind 2, part 0: a voice's targets. Kind 3, part 0: a slot's record. Kind 4: a slot's ring, cell 0 first, 126 a part.
- *               Written by kind, then voice or slot, then part. Read in any order; unused words are ignored, and any NaN is taken. Files of versions
- *               before 700 hold 0 where the peak stands
+ *               the face at z = 0, gain. Kind 2, part 0: a voice's targets without z. Kind 3, part 0: a slot's record without z. Kind 4: a slot's ring,
+ *               cell 0 first, 126 a part. Written by kind, then voice or slot, then part. Read in any order; unused words are ignored, and any NaN is
+ *               taken. Files of versions before 700 hold 0 where the peak stands. A bank that needs a third axis is not parked: refusal 15
  */
 #ifndef SENTIVOLUS_H
 #define SENTIVOLUS_H
@@ -61,19 +63,22 @@ extern "C" {
 
 /* 10,000 x major + 100 x minor + patch. It grows with every change of a call, a struct or a layout; sentivolus_version() gives that of the
  * archive. */
-#define SENTIVOLUS_VERSION 800
+#define SENTIVOLUS_VERSION 900
 
 enum {
     SENTIVOLUS_MOST_VOICES = 16,
     SENTIVOLUS_MOST_CHANNELS = 2,
     SENTIVOLUS_MOST_FRAMES = 4096, /* in a block */
-    SENTIVOLUS_PARAMS = 9,         /* settings of a voice */
-    SENTIVOLUS_TARGETS = 10,       /* numbers a voice */
-    SENTIVOLUS_RECORD = 31,        /* numbers a slot */
+    SENTIVOLUS_PARAMS = 10,        /* settings of a voice */
+    SENTIVOLUS_TARGETS = 11,       /* numbers a voice */
+    SENTIVOLUS_TARGET_Z = 10,      /* z's place in a voice's targets */
+    SENTIVOLUS_RECORD = 32,        /* numbers a slot */
     SENTIVOLUS_PEAK = 30,          /* the peak's place in a record */
-    SENTIVOLUS_STATES = 4,         /* of a pole-zero design */
+    SENTIVOLUS_RECORD_Z = 31,      /* z's place in a record */
+    SENTIVOLUS_STATES = 8,         /* of a pole-zero design: four at z = 0, then four at z = 1 */
     SENTIVOLUS_POINTS = 8,         /* a state */
-    SENTIVOLUS_SECTIONS = 160      /* numbers of a pole-zero table */
+    SENTIVOLUS_SECTIONS = 320,     /* numbers of a pole-zero table */
+    SENTIVOLUS_FACE = 160          /* numbers of one of its two faces */
 };
 
 /* The structures that a bank's filters can have. */
@@ -85,7 +90,7 @@ typedef enum sentivolus_code {
     SENTIVOLUS_DIODE_LADDER = 5,           /* coupled stages after an asymmetric shaper; character slows the cutoff */
     SENTIVOLUS_CLEAN_LADDER = 6,           /* coupled stages without the shaper; character slows the cutoff */
     SENTIVOLUS_DRIVEN_LADDER = 7,          /* the transistor ladder, overdriven by character */
-    SENTIVOLUS_POLE_ZERO = 8,              /* up to eight drawn sections, blended by x and y; character slows cutoff, x and y */
+    SENTIVOLUS_POLE_ZERO = 8,              /* up to eight drawn sections, blended by x, y and, with three axes, z; character slows cutoff, x and y */
     SENTIVOLUS_COMB2 = 9,                  /* a feedback comb with two taps, the second up to two octaves above by character */
     SENTIVOLUS_EXPANDER_MULTIMODE = 10,    /* a four-pole ladder; character goes from low-pass by notch to high-pass */
     SENTIVOLUS_EXPANDER_BAND_PASS = 11,    /* the four-pole ladder's band-pass */
@@ -121,14 +126,16 @@ typedef enum sentivolus_refusal {
     SENTIVOLUS_REFUSED_POINT = 11,    /* point number above 7 */
     SENTIVOLUS_REFUSED_DAMAGED = 12,  /* a parked file's length no multiple of 512, or a block whose words do not sum to zero */
     SENTIVOLUS_REFUSED_BLOCKS = 13,   /* a block of a parked file missing, doubled or unknown, or its clean word above 1 */
-    SENTIVOLUS_REFUSED_SCRATCH = 14   /* targets, records or delay of an audition's scratch not exactly as long as the setup asks */
+    SENTIVOLUS_REFUSED_SCRATCH = 14,  /* targets, records or delay of an audition's scratch not exactly as long as the setup asks */
+    SENTIVOLUS_REFUSED_UNPARKABLE = 15 /* a bank that a parked file has no words for: a three-axis table, or a z number, of targets or records,
+                                        * whose bits are not all zero */
 } sentivolus_refusal;
 
 /* The trade's word for a refusal's number. */
 static inline const char *sentivolus_refusal_word(uint32_t number)
 {
     static const char *const words[] = {"accepted", "rate", "tuning", "polyphony", "layout", "structure",
-                                        "store", "voice", "knob", "frames", "buffer", "point", "damaged", "blocks", "scratch"};
+                                        "store", "voice", "knob", "frames", "buffer", "point", "damaged", "blocks", "scratch", "unparkable"};
     return number < sizeof words / sizeof words[0] ? words[number] : "unknown";
 }
 
@@ -139,6 +146,7 @@ typedef struct sentivolus_pole_zero_table {
     uint32_t active; /* sections that run, 0 to 8; a larger number acts as 8 */
     float gain;      /* linear, after the sections */
     float sections[SENTIVOLUS_SECTIONS];
+    bool three_axes; /* x, y and z; otherwise x and y, and the face at z = 1 is ignored */
 } sentivolus_pole_zero_table;
 
 /* What a bank is opened with; every later call is handed it again. Make it by sentivolus_new_setup or sentivolus_file_setup: later versions add
@@ -176,6 +184,7 @@ typedef struct sentivolus_params {
     float level;         /* linear gain after the mix, held to 0 and above; NaN or infinite acts as 0; default 1 */
     float morph_x;       /* of SENTIVOLUS_POLE_ZERO, held to 0 .. 1, NaN acts as 0; default 0 */
     float morph_y;       /* likewise */
+    float morph_z;       /* likewise, of a three-axis table; it is not steered, and character does not slow it */
 } sentivolus_params;
 
 /* A block's input beside its audio. Where `steered` is set, x and y are added to the smoothed morph_x and morph_y and the sums held to 0 .. 1. */
@@ -199,40 +208,42 @@ typedef struct sentivolus_design_point {
     float b;         /* Free: its zero's Q, as q */
 } sentivolus_design_point;
 
-/* A pole-zero design: four states at x, y = 0, 0; 1, 0; 0, 1; 1, 1, of eight points each, and the overall gain. */
+/* A pole-zero design: four states at x, y = 0, 0; 1, 0; 0, 1; 1, 1, of eight points each, and the overall gain. With three axes these are at z = 0, and
+ * states 4 to 7, in the same order, at z = 1. */
 typedef struct sentivolus_design {
     sentivolus_design_point points[SENTIVOLUS_STATES][SENTIVOLUS_POINTS];
-    float gain_db; /* held to -24 .. 24; NaN acts as 0 */
+    float gain_db;   /* held to -24 .. 24; NaN acts as 0 */
+    bool three_axes; /* otherwise two, and states 4 to 7 are ignored */
 } sentivolus_design;
 
 /* ---- 3. The archive's symbols ----
  *
  * Each asks that MXCSR rounds to nearest, keeps subnormals and traps nothing: its default, 0x1F80, flags apart. Where it may be otherwise, call
- * them between sentivolus_floats_enter and sentivolus_floats_leave. `sections` has 160 numbers. */
+ * them between sentivolus_floats_enter and sentivolus_floats_leave. `sections` has 320 numbers. */
 
 uint32_t sentivolus_version(void);
 
 /* Every voice set to the defaults and started; the cursor is 0 afterwards. */
 uint32_t sentivolus_open(uint32_t code, float rate, float reference, size_t voices, size_t channels, bool clean,
-                         uint32_t active, const float sections[], float gain,
+                         uint32_t active, bool three_axes, const float sections[], float gain,
                          float *targets, size_t targets_len, float *records, size_t records_len, float *delay, size_t delay_len);
 
 /* Writes one voice's targets. The cursor stays. */
 uint32_t sentivolus_set(uint32_t code, float rate, float reference, size_t voices, size_t channels, bool clean,
-                        uint32_t active, const float sections[], float gain,
+                        uint32_t active, bool three_axes, const float sections[], float gain,
                         float *targets, size_t targets_len, size_t voice,
                         float resonance, float drive, float saturation, float character, float stereo_offset, float mix,
-                        float level, float morph_x, float morph_y);
+                        float level, float morph_x, float morph_y, float morph_z);
 
 /* Copies a voice's targets to its smoothed numbers on every channel and zeroes its states, peaks and rings. The cursor stays. */
 uint32_t sentivolus_start(uint32_t code, float rate, float reference, size_t voices, size_t channels, bool clean,
-                          uint32_t active, const float sections[], float gain,
+                          uint32_t active, bool three_axes, const float sections[], float gain,
                           const float *targets, size_t targets_len, float *records, size_t records_len,
                           float *delay, size_t delay_len, size_t voice);
 
 /* Renders a block in place and writes its counts. *cursor is the cursor, and the new one afterwards; *rendered becomes the frames rendered. */
 uint32_t sentivolus_block(uint32_t code, float rate, float reference, size_t voices, size_t channels, bool clean,
-                          uint32_t active, const float sections[], float gain, size_t *cursor,
+                          uint32_t active, bool three_axes, const float sections[], float gain, size_t *cursor,
                           const float *targets, size_t targets_len, float *records, size_t records_len,
                           float *delay, size_t delay_len, size_t frames, const float *pitch, size_t pitch_len, bool steered,
                           const float *x, size_t x_len, const float *y, size_t y_len, float *audio, size_t audio_len,
@@ -241,7 +252,7 @@ uint32_t sentivolus_block(uint32_t code, float rate, float reference, size_t voi
 /* As sentivolus_block on a copy of the bank, made in the scratch lists, whatever they hold; *scratch_cursor becomes the copy's new cursor. The bank's
  * lists stay as they are, and its cursor is the caller's to keep. */
 uint32_t sentivolus_audition(uint32_t code, float rate, float reference, size_t voices, size_t channels, bool clean,
-                             uint32_t active, const float sections[], float gain, size_t cursor,
+                             uint32_t active, bool three_axes, const float sections[], float gain, size_t cursor,
                              const float *targets, size_t targets_len, const float *records, size_t records_len,
                              const float *delay, size_t delay_len, size_t *scratch_cursor,
                              float *scratch_targets, size_t scratch_targets_len, float *scratch_records, size_t scratch_records_len,
@@ -249,42 +260,43 @@ uint32_t sentivolus_audition(uint32_t code, float rate, float reference, size_t 
                              const float *x, size_t x_len, const float *y, size_t y_len, float *audio, size_t audio_len,
                              uint32_t *counts, size_t counts_len, size_t *rendered);
 
-/* The bytes of the file that a bank of this setup is parked in; 0 for a setup that is refused. */
+/* The bytes of the file that a bank of this setup is parked in, whatever its table; 0 for a setup that is refused. */
 size_t sentivolus_park_len(uint32_t code, float rate, float reference, size_t voices, size_t channels, bool clean,
-                           uint32_t active, const float sections[], float gain);
+                           uint32_t active, bool three_axes, const float sections[], float gain);
 
 /* Parks a bank in a file of exactly that length. The bank stays as it is. */
 uint32_t sentivolus_park(uint32_t code, float rate, float reference, size_t voices, size_t channels, bool clean,
-                         uint32_t active, const float sections[], float gain, size_t cursor,
+                         uint32_t active, bool three_axes, const float sections[], float gain, size_t cursor,
                          const float *targets, size_t targets_len, const float *records, size_t records_len,
                          const float *delay, size_t delay_len, uint8_t *file, size_t file_len);
 
-/* The setup and the cursor of a parked file, from which the lengths of the lists follow. Like sentivolus_restore it may read *clean before it
- * writes it. */
+/* The setup and the cursor of a parked file, from which the lengths of the lists follow. Like sentivolus_restore it may read *clean and *three_axes
+ * before it writes them. */
 uint32_t sentivolus_parked_setup(const uint8_t *file, size_t file_len, uint32_t *code, float *rate, float *reference,
                                  size_t *voices, size_t *channels, bool *clean,
-                                 uint32_t *active, float sections[], float *gain, size_t *cursor);
+                                 uint32_t *active, bool *three_axes, float sections[], float *gain, size_t *cursor);
 
 /* Restores the bank of a parked file: its lists, its setup and its cursor. */
 uint32_t sentivolus_restore(const uint8_t *file, size_t file_len, float *targets, size_t targets_len, float *records, size_t records_len,
                             float *delay, size_t delay_len, uint32_t *code, float *rate, float *reference,
                             size_t *voices, size_t *channels, bool *clean,
-                            uint32_t *active, float sections[], float *gain, size_t *cursor);
+                            uint32_t *active, bool *three_axes, float sections[], float *gain, size_t *cursor);
 
-/* The nine default settings, in the order of sentivolus_params. */
-void sentivolus_defaults(float out[9]);
+/* The ten default settings, in the order of sentivolus_params. */
+void sentivolus_defaults(float out[10]);
 
-/* The ten targets of nine settings. */
+/* The eleven targets of ten settings. */
 void sentivolus_targets_of(float resonance, float drive, float saturation, float character, float stereo_offset, float mix,
-                           float level, float morph_x, float morph_y, float out[10]);
+                           float level, float morph_x, float morph_y, float morph_z, float out[11]);
 
-/* A design as 32 kinds and 128 numbers (frequency, q, a, b of each point), state by state. Answers the table's active sections and writes its
- * 160 numbers and its gain. It refuses nothing. */
-uint32_t sentivolus_table(const uint32_t kinds[32], const float numbers[128], float gain_db, float sections[160], float *gain);
+/* A design as 64 kinds and 256 numbers (frequency, q, a, b of each point), state by state; with two axes states 4 to 7 are ignored. Answers the
+ * table's active sections and writes its 320 numbers and its gain. It refuses nothing. */
+uint32_t sentivolus_table(const uint32_t kinds[64], const float numbers[256], bool three_axes, float gain_db, float sections[320], float *gain);
 
-/* A design's point blended at x and y, each held to 0 .. 1: octaves, damping, high, band, low. Answers 0, or 11 for a point above 7. A NaN x or
- * y gives NaN. */
-uint32_t sentivolus_section(const uint32_t kinds[32], const float numbers[128], float gain_db, size_t point, float x, float y, float out[5]);
+/* A design's point blended at x, y and z, each held to 0 .. 1: octaves, damping, high, band, low. Answers 0, or 11 for a point above 7. A NaN x, y or
+ * z gives NaN. With two axes z is ignored, a NaN too. */
+uint32_t sentivolus_section(const uint32_t kinds[64], const float numbers[256], bool three_axes, float gain_db, size_t point,
+                            float x, float y, float z, float out[5]);
 
 /* One point by itself: octaves, damping, high, band, low. */
 void sentivolus_point(uint32_t kind, float frequency, float q, float a, float b, float out[5]);
@@ -339,7 +351,7 @@ static inline void sentivolus_floats_leave(unsigned before)
         _mm_setcsr(before);
 }
 
-/* A setup with reference 440, no clean drive and a pole-zero table that passes its input. */
+/* A setup with reference 440, no clean drive and a pole-zero table of two axes that passes its input. */
 static inline sentivolus_setup sentivolus_new_setup(uint32_t code, float rate, size_t voices, size_t channels)
 {
     sentivolus_setup s;
@@ -353,6 +365,7 @@ static inline sentivolus_setup sentivolus_new_setup(uint32_t code, float rate, s
     s.table.gain = 1.0f;
     for (size_t i = 0; i < SENTIVOLUS_SECTIONS; i++)
         s.table.sections[i] = 0.0f;
+    s.table.three_axes = false;
     return s;
 }
 
@@ -373,15 +386,18 @@ static inline sentivolus_params sentivolus_default_params(void)
     p.level = n[6];
     p.morph_x = n[7];
     p.morph_y = n[8];
+    p.morph_z = n[9];
     return p;
 }
 
 /* A setup and a bank's lists as the archive's symbols take them, and a setup as they write it. */
 #define SENTIVOLUS_SETUP_OF(s) \
-    (s)->code, (s)->rate, (s)->reference, (s)->voices, (s)->channels, (s)->clean, (s)->table.active, (s)->table.sections, (s)->table.gain
+    (s)->code, (s)->rate, (s)->reference, (s)->voices, (s)->channels, (s)->clean, \
+    (s)->table.active, (s)->table.three_axes, (s)->table.sections, (s)->table.gain
 #define SENTIVOLUS_LISTS_OF(b) (b)->targets, (b)->targets_len, (b)->records, (b)->records_len, (b)->delay, (b)->delay_len
 #define SENTIVOLUS_SETUP_TO(s) \
-    &(s)->code, &(s)->rate, &(s)->reference, &(s)->voices, &(s)->channels, &(s)->clean, &(s)->table.active, (s)->table.sections, &(s)->table.gain
+    &(s)->code, &(s)->rate, &(s)->reference, &(s)->voices, &(s)->channels, &(s)->clean, \
+    &(s)->table.active, &(s)->table.three_axes, (s)->table.sections, &(s)->table.gain
 
 /* 0 for a setup that can be opened, or 1 to 5. */
 static inline sentivolus_refusal sentivolus_setup_check(const sentivolus_setup *s)
@@ -443,7 +459,7 @@ static inline sentivolus_refusal sentivolus_bank_set(const sentivolus_setup *s, 
     unsigned before = sentivolus_floats_enter();
     uint32_t answer = sentivolus_set(SENTIVOLUS_SETUP_OF(s), b->targets, b->targets_len, voice,
                                      p->resonance, p->drive, p->saturation, p->character, p->stereo_offset, p->mix,
-                                     p->level, p->morph_x, p->morph_y);
+                                     p->level, p->morph_x, p->morph_y, p->morph_z);
     sentivolus_floats_leave(before);
     return (sentivolus_refusal)answer;
 }
@@ -499,7 +515,8 @@ static inline float sentivolus_bank_peak(const sentivolus_setup *s, const sentiv
     return b->records[SENTIVOLUS_RECORD * slot + SENTIVOLUS_PEAK];
 }
 
-/* Parks a bank in a file of sentivolus_file_len(s) bytes. The bank stays as it is. Refusals 1 to 6; 6 measures the file too. */
+/* Parks a bank in a file of sentivolus_file_len(s) bytes. The bank stays as it is. Refusals 1 to 6 and then 15; 6 measures the file too. A voice whose
+ * morph_z was not +0 meets 15 until it is set to +0 and started: a glide alone does not come to 0. */
 static inline sentivolus_refusal sentivolus_bank_park(const sentivolus_setup *s, const sentivolus_bank *b, uint8_t *file, size_t file_len)
 {
     unsigned before = sentivolus_floats_enter();
@@ -525,8 +542,9 @@ static inline sentivolus_refusal sentivolus_file_setup(const uint8_t *file, size
     return (sentivolus_refusal)answer;
 }
 
-/* Restores a parked bank: *s, the lists and b->cursor become, bit by bit, those that were parked, whatever they were. Refusals, in this order: 12;
- * 13 for a kind 1 part missing or doubled or the clean word; 1 to 5 of the file's setup; 13 for any other block; 6 of the lists. */
+/* Restores a parked bank: *s, the lists and b->cursor become, bit by bit, those that were parked, whatever they were; the face at z = 1, which was
+ * ignored, becomes 0. Refusals, in this order: 12; 13 for a kind 1 part missing or doubled or the clean word; 1 to 5 of the file's setup; 13 for any
+ * other block; 6 of the lists. */
 static inline sentivolus_refusal sentivolus_bank_restore(const uint8_t *file, size_t file_len, sentivolus_setup *s, sentivolus_bank *b)
 {
     sentivolus_setup parked = sentivolus_new_setup(0, 0.0f, 0, 0);
@@ -541,7 +559,7 @@ static inline sentivolus_refusal sentivolus_bank_restore(const uint8_t *file, si
     return (sentivolus_refusal)answer;
 }
 
-/* A design of 32 Bypass points at 1,000 Hz and gain 0 dB. */
+/* A design of two axes, every point a Bypass at 1,000 Hz, gain 0 dB. */
 static inline sentivolus_design sentivolus_new_design(void)
 {
     sentivolus_design d;
@@ -550,11 +568,12 @@ static inline sentivolus_design sentivolus_new_design(void)
         for (size_t j = 0; j < SENTIVOLUS_POINTS; j++)
             d.points[i][j] = bypass;
     d.gain_db = 0.0f;
+    d.three_axes = false;
     return d;
 }
 
 /* A design's points as the archive takes them. */
-static inline void sentivolus_design_numbers(const sentivolus_design *d, uint32_t kinds[32], float numbers[128])
+static inline void sentivolus_design_numbers(const sentivolus_design *d, uint32_t kinds[64], float numbers[256])
 {
     for (size_t i = 0; i < SENTIVOLUS_STATES; i++)
         for (size_t j = 0; j < SENTIVOLUS_POINTS; j++) {
@@ -568,27 +587,28 @@ static inline void sentivolus_design_numbers(const sentivolus_design *d, uint32_
         }
 }
 
-/* The table of a design. Points that are Bypass in all four states are left out. */
+/* The table of a design, with as many axes. Points that are Bypass in all of its states, four or eight, are left out. */
 static inline sentivolus_pole_zero_table sentivolus_design_table(const sentivolus_design *d)
 {
-    uint32_t kinds[32];
-    float numbers[128];
+    uint32_t kinds[64];
+    float numbers[256];
     sentivolus_pole_zero_table t;
     sentivolus_design_numbers(d, kinds, numbers);
     unsigned before = sentivolus_floats_enter();
-    t.active = sentivolus_table(kinds, numbers, d->gain_db, t.sections, &t.gain);
+    t.active = sentivolus_table(kinds, numbers, d->three_axes, d->gain_db, t.sections, &t.gain);
     sentivolus_floats_leave(before);
+    t.three_axes = d->three_axes;
     return t;
 }
 
-/* A point of a design at x and y, each held to 0 .. 1: out becomes octaves, damping, high, band, low. Refusal 11. */
-static inline sentivolus_refusal sentivolus_design_section(const sentivolus_design *d, size_t point, float x, float y, float out[5])
+/* A point of a design at x, y and z, each held to 0 .. 1: out becomes octaves, damping, high, band, low. With two axes z is ignored. Refusal 11. */
+static inline sentivolus_refusal sentivolus_design_section(const sentivolus_design *d, size_t point, float x, float y, float z, float out[5])
 {
-    uint32_t kinds[32];
-    float numbers[128];
+    uint32_t kinds[64];
+    float numbers[256];
     sentivolus_design_numbers(d, kinds, numbers);
     unsigned before = sentivolus_floats_enter();
-    uint32_t answer = sentivolus_section(kinds, numbers, d->gain_db, point, x, y, out);
+    uint32_t answer = sentivolus_section(kinds, numbers, d->three_axes, d->gain_db, point, x, y, z, out);
     sentivolus_floats_leave(before);
     return (sentivolus_refusal)answer;
 }

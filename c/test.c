@@ -1,6 +1,6 @@
 /* What the declarations cannot say: that the calls give the same bits in every float environment and give the caller's back, that each number
  * arrives where it is meant to, that a parked file is as the header lays it out, that peaks are of the samples handed back, that an audition is the
- * block and leaves the bank, and that the stack suffices. Prints `c: N checks` and answers 0, or says which failed. */
+ * block and leaves the bank, what the third axis does, and that the stack suffices. Prints `c: N checks` and answers 0, or says which failed. */
 #define _GNU_SOURCE
 #include "sentivolus.h"
 #include <math.h>
@@ -50,7 +50,7 @@ static sentivolus_design bells(void)
     return d;
 }
 
-/* Lends a bank these lists, full of a number. */
+/* Lends a bank these lists, full of a number, but z's 0, so that it can be parked. */
 static void lend(sentivolus_bank *b, float *targets, float *records, float *delay, float full, size_t cursor)
 {
     sentivolus_bank lent = {targets, SENTIVOLUS_TARGETS * VOICES, records, SENTIVOLUS_RECORD * SLOTS, delay, RING * SLOTS, cursor};
@@ -59,6 +59,10 @@ static void lend(sentivolus_bank *b, float *targets, float *records, float *dela
     for (int l = 0; l < 3; l++)
         for (size_t i = 0; i < lengths[l]; i++)
             lists[l][i] = full;
+    for (int voice = 0; voice < VOICES; voice++)
+        targets[SENTIVOLUS_TARGETS * voice + SENTIVOLUS_TARGET_Z] = 0;
+    for (int slot = 0; slot < SLOTS; slot++)
+        records[SENTIVOLUS_RECORD * slot + SENTIVOLUS_RECORD_Z] = 0;
     *b = lent;
 }
 
@@ -147,7 +151,7 @@ static int same_setup(const sentivolus_setup *a, const sentivolus_setup *b)
 {
     return a->code == b->code && a->rate == b->rate && a->reference == b->reference && a->voices == b->voices && a->channels == b->channels &&
            a->clean == b->clean && a->table.active == b->table.active && a->table.gain == b->table.gain &&
-           !memcmp(a->table.sections, b->table.sections, sizeof a->table.sections);
+           a->table.three_axes == b->table.three_axes && !memcmp(a->table.sections, b->table.sections, sizeof a->table.sections);
 }
 
 /* The same lists, setup and cursor of two banks. */
@@ -192,7 +196,8 @@ static void raw_block(session *t, uint32_t code, unsigned mxcsr)
     sentivolus_bank_set(s, &t->bank, 1, &p);
     unsigned before = _mm_getcsr();
     _mm_setcsr(mxcsr);
-    sentivolus_block(s->code, s->rate, s->reference, s->voices, s->channels, s->clean, s->table.active, s->table.sections, s->table.gain, &cursor,
+    sentivolus_block(s->code, s->rate, s->reference, s->voices, s->channels, s->clean,
+                     s->table.active, s->table.three_axes, s->table.sections, s->table.gain, &cursor,
                      b->targets, b->targets_len, b->records, b->records_len, b->delay, b->delay_len, FRAMES, pitch, FRAMES * VOICES, false,
                      NULL, 0, NULL, 0, t->audio, FRAMES * SLOTS, t->counts, SLOTS, &rendered);
     _mm_setcsr(before);
@@ -223,13 +228,13 @@ static void float_environments(void)
 static void refusals(void)
 {
     static const char *const words[] = {"accepted", "rate", "tuning", "polyphony", "layout", "structure", "store",
-                                        "voice", "knob", "frames", "buffer", "point", "damaged", "blocks", "scratch", "unknown"};
+                                        "voice", "knob", "frames", "buffer", "point", "damaged", "blocks", "scratch", "unparkable", "unknown"};
     sentivolus_design design = sentivolus_new_design();
     sentivolus_params p = sentivolus_default_params();
     sentivolus_bank none = {NULL, 0, NULL, 0, NULL, 0, 0};
     float out[5] = {1, 2, 3, 4, 5};
     session *t = &other;
-    for (uint32_t n = 0; n < 16; n++)
+    for (uint32_t n = 0; n < 17; n++)
         check(!strcmp(sentivolus_refusal_word(n), words[n]), "a refusal's word", (int)n);
     for (uint32_t n = 1; n <= 5; n++) {
         make(t, 9);
@@ -248,7 +253,7 @@ static void refusals(void)
     }
     make(t, 9);
     check(sentivolus_setup_check(&t->setup) == SENTIVOLUS_ACCEPTED, "a right setup", 0);
-    check(sentivolus_targets_len(&t->setup) == 20 && sentivolus_records_len(&t->setup) == 124 && sentivolus_delay_len(&t->setup) == 4 * RING &&
+    check(sentivolus_targets_len(&t->setup) == 22 && sentivolus_records_len(&t->setup) == 128 && sentivolus_delay_len(&t->setup) == 4 * RING &&
           sentivolus_counts_len(&t->setup) == SLOTS && sentivolus_file_len(&t->setup) == FILE_LEN, "its lengths", 0);
     t->bank.delay_len--;
     check(sentivolus_bank_open(&t->setup, &t->bank) == SENTIVOLUS_REFUSED_STORE, "a short list", 6);
@@ -272,26 +277,27 @@ static void refusals(void)
     check(render(t, SLOTS) == SENTIVOLUS_REFUSED_BUFFER, "x unsteered", 10);
     make(&usual, 9);
     check(same(t, &usual), "a refusal changes nothing", 0);
-    check(sentivolus_design_section(&design, 8, 0, 0, out) == SENTIVOLUS_REFUSED_POINT && out[4] == 5, "a ninth point", 11);
-    check(sentivolus_design_section(&design, 7, 0, 0, out) == SENTIVOLUS_ACCEPTED && out[2] == 1, "an eighth point", 0);
+    check(sentivolus_design_section(&design, 8, 0, 0, 0, out) == SENTIVOLUS_REFUSED_POINT && out[4] == 5, "a ninth point", 11);
+    check(sentivolus_design_section(&design, 7, 0, 0, 0, out) == SENTIVOLUS_ACCEPTED && out[2] == 1, "an eighth point", 0);
 }
 
 static void arguments(void)
 {
     sentivolus_design design = bells();
     sentivolus_params p = sentivolus_default_params();
-    const float defaults[] = {0.1f, 0, 0, 0, 0, 1, 1, 0, 0};
-    float ten[SENTIVOLUS_TARGETS];
+    const float defaults[] = {0.1f, 0, 0, 0, 0, 1, 1, 0, 0, 0};
+    float targets[SENTIVOLUS_TARGETS];
     session *t = &other;
     check(!memcmp(&p, defaults, sizeof p), "the default settings", 0);
     check(sentivolus_version() == SENTIVOLUS_VERSION, "header and archive of one version", 0);
     make(t, 9);
     check(!sentivolus_bank_open(&t->setup, &t->bank) && t->bank.cursor == 0, "open", 0);
-    sentivolus_params q = {0.25f, 0.5f, 0, 0.125f, 3, 0.75f, 2, 0.375f, 1};
+    sentivolus_params q = {0.25f, 0.5f, 0, 0.125f, 3, 0.75f, 2, 0.375f, 1, 0.625f};
     check(!sentivolus_bank_set(&t->setup, &t->bank, 1, &q), "set", 0);
-    sentivolus_targets_of(q.resonance, q.drive, q.saturation, q.character, q.stereo_offset, q.mix, q.level, q.morph_x, q.morph_y, ten);
-    check(!memcmp(ten, t->targets + SENTIVOLUS_TARGETS, sizeof ten), "set writes the targets of its settings", 0);
-    check(ten[0] == 0.25f && ten[4] == 3 && ten[5] == 0.75f && ten[6] == 2 && ten[7] == 0.125f && ten[8] == 0.375f && ten[9] == 1, "their order", 0);
+    sentivolus_targets_of(q.resonance, q.drive, q.saturation, q.character, q.stereo_offset, q.mix, q.level, q.morph_x, q.morph_y, q.morph_z, targets);
+    check(!memcmp(targets, t->targets + SENTIVOLUS_TARGETS, sizeof targets), "set writes the targets of its settings", 0);
+    check(targets[0] == 0.25f && targets[4] == 3 && targets[5] == 0.75f && targets[6] == 2 && targets[7] == 0.125f && targets[8] == 0.375f &&
+          targets[9] == 1 && targets[SENTIVOLUS_TARGET_Z] == 0.625f, "their order", 0);
     t->input.steered = false;
     t->input.x = t->input.y = NULL;
     t->input.x_len = t->input.y_len = 0;
@@ -360,9 +366,9 @@ static void zeros(void)
         }
     check(word_of(sentivolus_max(NAN, -0.0f)) == word_of(-0.0f) && word_of(sentivolus_max(-0.0f, NAN)) == word_of(-0.0f), "a NaN beside -0", 0);
     check(word_of(sentivolus_min(NAN, 0.0f)) == 0 && word_of(sentivolus_min(0.0f, NAN)) == 0, "a NaN beside +0", 0);
-    float ten[SENTIVOLUS_TARGETS];
-    sentivolus_targets_of(-0.0f, 0, 0, 0, 0, 1, -0.0f, 0, 0, ten);
-    check(word_of(ten[0]) == word_of(-0.0f) && word_of(ten[6]) == 0, "a resonance of -0 stays, a level of -0 becomes +0", 0);
+    float targets[SENTIVOLUS_TARGETS];
+    sentivolus_targets_of(-0.0f, 0, 0, 0, 0, 1, -0.0f, 0, 0, 0, targets);
+    check(word_of(targets[0]) == word_of(-0.0f) && word_of(targets[6]) == 0, "a resonance of -0 stays, a level of -0 becomes +0", 0);
 }
 
 /* ---- parking */
@@ -383,8 +389,8 @@ static void put_word(uint8_t *block, size_t word, uint32_t value)
     }
 }
 
-/* Writes the blocks of a kind: `each` words a row, in parts. Answers where the next goes. */
-static uint8_t *put_rows(uint8_t *file, uint32_t kind, const uint32_t *words, size_t rows, size_t each)
+/* Writes the blocks of a kind: of each row of `width` words the first `each`, in parts. Answers where the next goes. */
+static uint8_t *put_rows(uint8_t *file, uint32_t kind, const uint32_t *words, size_t rows, size_t width, size_t each)
 {
     for (size_t row = 0; row < rows; row++)
         for (size_t i = 0; i < each; i++) {
@@ -393,32 +399,32 @@ static uint8_t *put_rows(uint8_t *file, uint32_t kind, const uint32_t *words, si
                 put_word(file, 0, kind | (uint32_t)row << 8 | (uint32_t)(i / HELD) << 16);
                 file += BYTES;
             }
-            put_word(file - BYTES, 1 + i % HELD, words[row * each + i]);
+            put_word(file - BYTES, 1 + i % HELD, words[row * width + i]);
         }
     return file;
 }
 
-static uint8_t *put_numbers(uint8_t *file, uint32_t kind, const float *numbers, size_t rows, size_t each)
+static uint8_t *put_numbers(uint8_t *file, uint32_t kind, const float *numbers, size_t rows, size_t width, size_t each)
 {
     static uint32_t words[RING * SLOTS];
-    for (size_t i = 0; i < rows * each; i++)
+    for (size_t i = 0; i < rows * width; i++)
         words[i] = word_of(numbers[i]);
-    return put_rows(file, kind, words, rows, each);
+    return put_rows(file, kind, words, rows, width, each);
 }
 
 /* A session's file as the header lays it out. */
 static void put_file(const session *t, uint8_t file[FILE_LEN])
 {
     const sentivolus_setup *s = &t->setup;
-    uint32_t words[9 + SENTIVOLUS_SECTIONS + 1] = {s->code, (uint32_t)s->voices, (uint32_t)s->channels, s->clean, word_of(s->rate), word_of(s->reference),
-                                                   (uint32_t)t->bank.cursor, (uint32_t)(t->bank.cursor >> 32), s->table.active};
-    for (size_t i = 0; i < SENTIVOLUS_SECTIONS; i++)
+    uint32_t words[9 + SENTIVOLUS_FACE + 1] = {s->code, (uint32_t)s->voices, (uint32_t)s->channels, s->clean, word_of(s->rate), word_of(s->reference),
+                                               (uint32_t)t->bank.cursor, (uint32_t)(t->bank.cursor >> 32), s->table.active};
+    for (size_t i = 0; i < SENTIVOLUS_FACE; i++)
         words[9 + i] = word_of(s->table.sections[i]);
-    words[9 + SENTIVOLUS_SECTIONS] = word_of(s->table.gain);
-    file = put_rows(file, 1, words, 1, 9 + SENTIVOLUS_SECTIONS + 1);
-    file = put_numbers(file, 2, t->targets, VOICES, SENTIVOLUS_TARGETS);
-    file = put_numbers(file, 3, t->records, SLOTS, SENTIVOLUS_RECORD);
-    put_numbers(file, 4, t->delay, SLOTS, RING);
+    words[9 + SENTIVOLUS_FACE] = word_of(s->table.gain);
+    file = put_rows(file, 1, words, 1, 0, 9 + SENTIVOLUS_FACE + 1);
+    file = put_numbers(file, 2, t->targets, VOICES, SENTIVOLUS_TARGETS, SENTIVOLUS_TARGET_Z);
+    file = put_numbers(file, 3, t->records, SLOTS, SENTIVOLUS_RECORD, SENTIVOLUS_RECORD_Z);
+    put_numbers(file, 4, t->delay, SLOTS, RING, RING);
 }
 
 static uint8_t file[FILE_LEN];
@@ -452,7 +458,7 @@ static void parking(void)
         spoil(u);
         for (size_t b = 0; b < BLOCKS; b++)
             memcpy(file + BYTES * b, t->file + BYTES * (BLOCKS - 1 - b), BYTES);
-        put_word(file + BYTES * (BLOCKS - 3), HELD, 9); /* unused: voice 0's targets are ten */
+        put_word(file + BYTES * (BLOCKS - 3), SENTIVOLUS_TARGETS, 9); /* unused: of voice 0's targets ten are parked */
         check(!sentivolus_bank_restore(file, FILE_LEN, &u->setup, &u->bank) && same(t, u), "from the last block to the first", (int)code);
         check(!render(t, SLOTS) && !render(u, SLOTS) && same(t, u), "the next block of both", (int)code);
     }
@@ -542,7 +548,7 @@ static uint32_t raw_restore(session *t, size_t length)
     sentivolus_bank *b = &t->bank;
     return sentivolus_restore(t->file, length, b->targets, b->targets_len, b->records, b->records_len, b->delay, b->delay_len,
                               &s->code, &s->rate, &s->reference, &s->voices, &s->channels, &s->clean,
-                              &s->table.active, s->table.sections, &s->table.gain, &b->cursor);
+                              &s->table.active, &s->table.three_axes, s->table.sections, &s->table.gain, &b->cursor);
 }
 
 /* A wrong length, a wrong sum; then all the faults above, and one less each time, the first mended; then the lists alone. */
@@ -726,8 +732,9 @@ static uint32_t raw_audition(session *t, size_t counts, size_t *rendered)
     const sentivolus_bank *b = &t->bank;
     const sentivolus_input *in = &t->input;
     sentivolus_bank *c = &t->scratch;
-    return sentivolus_audition(s->code, s->rate, s->reference, s->voices, s->channels, s->clean, s->table.active, s->table.sections, s->table.gain,
-                               b->cursor, b->targets, b->targets_len, b->records, b->records_len, b->delay, b->delay_len, &c->cursor,
+    return sentivolus_audition(s->code, s->rate, s->reference, s->voices, s->channels, s->clean,
+                               s->table.active, s->table.three_axes, s->table.sections, s->table.gain, b->cursor,
+                               b->targets, b->targets_len, b->records, b->records_len, b->delay, b->delay_len, &c->cursor,
                                c->targets, c->targets_len, c->records, c->records_len, c->delay, c->delay_len, in->frames, in->pitch, in->pitch_len,
                                in->steered, in->x, in->x_len, in->y, in->y_len, t->heard, FRAMES * SLOTS, t->heard_counts, counts, rendered);
 }
@@ -776,6 +783,198 @@ static void audition_refusals(void)
     check(!raw_audition(t, SLOTS, &rendered) && rendered == FRAMES && t->scratch.cursor == 99 + FRAMES && t->bank.cursor == 99, "all faults mended", 0);
 }
 
+/* ---- the third axis */
+
+/* The bells of all eight states. */
+static sentivolus_design cube(void)
+{
+    sentivolus_design d = bells();
+    d.three_axes = true;
+    return d;
+}
+
+/* Of a design of eight states the face at z = 0, or that at z = 1, as a design of four. */
+static sentivolus_design face_of(const sentivolus_design *d, size_t face)
+{
+    sentivolus_design four = sentivolus_new_design();
+    memcpy(four.points, d->points + 4 * face, sizeof four.points / 2);
+    four.gain_db = d->gain_db;
+    return four;
+}
+
+static int same_bits(float a, float b)
+{
+    return word_of(a) == word_of(b);
+}
+
+/* A table of eight states has both faces, a section between them is A + z * (B - A), and a design of four ignores all of it. */
+static void cubes(void)
+{
+    sentivolus_design d = cube(), near_face = face_of(&d, 0), far_face = face_of(&d, 1);
+    sentivolus_pole_zero_table t = sentivolus_design_table(&d), a = sentivolus_design_table(&near_face), b = sentivolus_design_table(&far_face);
+    const size_t half = sizeof t.sections / 2;
+    check(t.three_axes && t.active == 8 && t.gain == a.gain && !a.three_axes, "a table of three axes", 0);
+    check(!memcmp(t.sections, a.sections, half) && !memcmp(t.sections + SENTIVOLUS_FACE, b.sections, half), "its two faces", 0);
+    check(memcmp(a.sections, b.sections, half) != 0, "they differ", 0);
+    d.three_axes = false;
+    t = sentivolus_design_table(&d);
+    check(!t.three_axes && !memcmp(t.sections, a.sections, sizeof t.sections) && same_bits(t.sections[SENTIVOLUS_FACE], 0), "of two axes one face alone", 0);
+
+    const float zs[] = {-1, -0.0f, 0, 0.25f, 0.5f, 1, 2, INFINITY, NAN};
+    d.three_axes = true;
+    for (size_t i = 0; i < sizeof zs / sizeof zs[0]; i++) {
+        float z = zs[i] < 0 ? 0 : zs[i] > 1 ? 1 : zs[i], between[5], at_0[5], at_1[5];
+        int right = 1;
+        check(!sentivolus_design_section(&d, 3, 0.25f, 0.75f, zs[i], between) && !sentivolus_design_section(&near_face, 3, 0.25f, 0.75f, zs[i], at_0) &&
+              !sentivolus_design_section(&far_face, 3, 0.25f, 0.75f, NAN, at_1), "sections", (int)i);
+        for (int k = 0; k < 5; k++) {
+            float difference = at_1[k] - at_0[k], part = z * difference, sum = at_0[k] + part;
+            right &= same_bits(between[k], sum) && at_0[k] == at_0[k];
+        }
+        check(right, "a section between the faces", (int)i);
+    }
+
+    sentivolus_design one = sentivolus_new_design();
+    one.points[7][2].kind = SENTIVOLUS_NOTCH;
+    check(sentivolus_design_table(&one).active == 0, "states at z = 1 are nothing to a design of two axes", 0);
+    one.three_axes = true;
+    t = sentivolus_design_table(&one);
+    check(t.active == 1 && t.sections[8] == 1, "a point of one face alone is kept in both", 0);
+}
+
+/* The z numbers of voice 1 are these: its target, and its smoothed one on both channels. */
+static int z_is(const session *t, float target, float smoothed)
+{
+    return same_bits(t->targets[SENTIVOLUS_TARGETS + SENTIVOLUS_TARGET_Z], target) &&
+           same_bits(t->records[SENTIVOLUS_RECORD + SENTIVOLUS_RECORD_Z], smoothed) &&
+           same_bits(t->records[SENTIVOLUS_RECORD * 3 + SENTIVOLUS_RECORD_Z], smoothed);
+}
+
+/* z is held to 0 .. 1, a NaN acts as 0; start copies it; a block glides there, in every structure. */
+static void z_settings(void)
+{
+    const struct {
+        float given, target;
+    } zs[] = {{NAN, 0}, {-1, 0}, {-0.0f, -0.0f}, {0.5f, 0.5f}, {2, 1}, {INFINITY, 1}, {-INFINITY, 0}};
+    session *t = &usual;
+    for (uint32_t code = 1; code <= 12; code++) {
+        sentivolus_params p = sentivolus_default_params();
+        make(t, code);
+        check(!sentivolus_bank_open(&t->setup, &t->bank) && z_is(t, 0, 0), "z of an opened bank", (int)code);
+        for (size_t i = 0; i < sizeof zs / sizeof zs[0]; i++) {
+            float before = t->records[SENTIVOLUS_RECORD + SENTIVOLUS_RECORD_Z];
+            p.morph_z = zs[i].given;
+            check(!sentivolus_bank_set(&t->setup, &t->bank, 1, &p) && z_is(t, zs[i].target, before), "set writes z's target", (int)(100 * code + i));
+            check(!sentivolus_bank_start(&t->setup, &t->bank, 1) && z_is(t, zs[i].target, zs[i].target), "start copies it", (int)(100 * code + i));
+        }
+        p.morph_z = 1;
+        check(!sentivolus_bank_set(&t->setup, &t->bank, 1, &p) && !render(t, SLOTS), "a glide of z", (int)code);
+        float z = t->records[SENTIVOLUS_RECORD + SENTIVOLUS_RECORD_Z];
+        check(z > 0.5f && z < 1 && z_is(t, 1, z), "z is on its way", (int)code);
+        check(same_bits(t->records[SENTIVOLUS_RECORD_Z], 0), "voice 0 stays at 0", (int)code);
+    }
+}
+
+/* A bank of a table, both voices at z, that has rendered a block in the float environment of `mxcsr`. */
+static void render_at(session *t, const sentivolus_pole_zero_table *table, float z, unsigned mxcsr)
+{
+    sentivolus_params p = loud();
+    p.morph_z = z;
+    make(t, SENTIVOLUS_POLE_ZERO);
+    t->setup.table = *table;
+    check(!sentivolus_bank_open(&t->setup, &t->bank), "a bank at z", 0);
+    for (size_t voice = 0; voice < VOICES; voice++)
+        check(!sentivolus_bank_set(&t->setup, &t->bank, voice, &p) && !sentivolus_bank_start(&t->setup, &t->bank, voice), "a voice at z", (int)voice);
+    unsigned before = _mm_getcsr();
+    _mm_setcsr(mxcsr);
+    sentivolus_refusal rendered = render(t, SLOTS);
+    _mm_setcsr(before);
+    check(!rendered, "a block at z", 0);
+}
+
+/* Whether two sessions handed back samples of the same value, and counted alike. */
+static int sounds_alike(const session *a, const session *b)
+{
+    int alike = !memcmp(a->counts, b->counts, sizeof a->counts);
+    for (size_t i = 0; i < FRAMES * SLOTS; i++)
+        alike &= a->audio[i] == b->audio[i];
+    return alike;
+}
+
+/* With three axes z is heard, at 0 the near face alone; with two neither z nor the far face is. */
+static void heard_z(void)
+{
+    sentivolus_design d = cube(), near_face = face_of(&d, 0);
+    sentivolus_pole_zero_table three = sentivolus_design_table(&d), two = sentivolus_design_table(&near_face), spoilt = two;
+    session *t = &usual, *u = &other;
+    for (size_t i = SENTIVOLUS_FACE; i < SENTIVOLUS_SECTIONS; i++)
+        spoilt.sections[i] = i % 2 ? NAN : 1e30f;
+    render_at(t, &two, 0, SENTIVOLUS_MXCSR);
+    render_at(u, &spoilt, 0.75f, SENTIVOLUS_MXCSR);
+    check(sounds_alike(t, u), "two axes ignore z and the face at z = 1", 0);
+    render_at(u, &three, 0, SENTIVOLUS_MXCSR);
+    check(sounds_alike(t, u), "at z = 0 the near face", 0);
+    render_at(t, &three, 0.75f, SENTIVOLUS_MXCSR);
+    check(!sounds_alike(t, u), "at another z another sound", 0);
+    for (size_t m = 0; m < sizeof modes / sizeof modes[0]; m++) {
+        render_at(u, &three, 0.75f, modes[m]);
+        check(sounds_alike(t, u) && same_bank(t, u), "the same bits in every float environment, three axes", (int)modes[m]);
+    }
+}
+
+/* What a file has no words for: a table of three axes, in any code; a z number that is not +0, of any voice or slot. After 6; and nothing is written. */
+static void unparkable(void)
+{
+    static session kept;
+    session *t = &usual;
+    for (uint32_t code = 1; code <= 12; code++)
+        for (int what = 0; what < 6; what++) {
+            make(t, code);
+            t->setup.table.three_axes = what == 0;
+            t->targets[SENTIVOLUS_TARGETS * (VOICES - 1) + SENTIVOLUS_TARGET_Z] = what == 1 ? 0.5f : what == 2 ? -0.0f : 0;
+            t->records[SENTIVOLUS_RECORD * (SLOTS - 1) + SENTIVOLUS_RECORD_Z] = what == 3 ? 0.5f : what == 4 ? -0.0f : what == 5 ? NAN : 0;
+            memcpy(&kept, t, sizeof kept);
+            check(sentivolus_file_len(&t->setup) == FILE_LEN, "the file's length", what);
+            check(sentivolus_bank_park(&t->setup, &t->bank, t->file, FILE_LEN) == SENTIVOLUS_REFUSED_UNPARKABLE && !memcmp(t, &kept, sizeof kept),
+                  "not parked", (int)(100 * code) + what);
+            check(sentivolus_bank_park(&t->setup, &t->bank, t->file, FILE_LEN - 1) == SENTIVOLUS_REFUSED_STORE, "6 before 15", what);
+            t->bank.records_len--;
+            check(sentivolus_bank_park(&t->setup, &t->bank, t->file, FILE_LEN) == SENTIVOLUS_REFUSED_STORE, "6 of a list before 15", what);
+        }
+
+    /* the way back: a glide does not come to 0, a start does */
+    sentivolus_params p = sentivolus_default_params();
+    make(t, SENTIVOLUS_BUZZ_MORPH);
+    p.morph_z = 0.5f;
+    check(!sentivolus_bank_open(&t->setup, &t->bank) && !sentivolus_bank_set(&t->setup, &t->bank, 1, &p) && !sentivolus_bank_start(&t->setup, &t->bank, 1),
+          "a voice at z", 1);
+    p.morph_z = 0;
+    check(!sentivolus_bank_set(&t->setup, &t->bank, 1, &p), "z back at 0", 0);
+    for (int block = 0; block < 60; block++)
+        check(!render(t, SLOTS), "a glide", block);
+    check(sentivolus_bank_park(&t->setup, &t->bank, t->file, FILE_LEN) == SENTIVOLUS_REFUSED_UNPARKABLE, "z after its glide", 0);
+    check(!sentivolus_bank_start(&t->setup, &t->bank, 1) && !sentivolus_bank_park(&t->setup, &t->bank, t->file, FILE_LEN), "z after a start", 0);
+}
+
+/* A table of two axes is parked without its far face, which comes back as 0, with z's, whatever setup and lists were before. */
+static void two_axes_parked(void)
+{
+    sentivolus_design d = bells();
+    session *t = &usual, *u = &other;
+    make(t, SENTIVOLUS_POLE_ZERO);
+    t->setup.table = sentivolus_design_table(&d);
+    put_file(t, file);
+    memcpy(u, t, sizeof *u);
+    for (size_t i = SENTIVOLUS_FACE; i < SENTIVOLUS_SECTIONS; i++)
+        t->setup.table.sections[i] = NAN;
+    check(!sentivolus_bank_park(&t->setup, &t->bank, t->file, FILE_LEN) && !memcmp(t->file, file, FILE_LEN), "a far face that is not parked", 0);
+    spoil(t);
+    t->setup.table.three_axes = true;
+    check(!raw_restore(t, FILE_LEN) && same_bank(t, u) && !t->setup.table.three_axes, "a restored table has two axes", 0);
+    t->setup.table.three_axes = true;
+    check(!sentivolus_file_setup(t->file, FILE_LEN, &t->setup, NULL) && same_setup(&t->setup, &u->setup), "so has the setup of its file", 0);
+}
+
 /* ---- the stack: what the calls leave untouched of a painted one */
 
 enum { STACK = 1 << 18, PAINT = 0x5A };
@@ -784,64 +983,85 @@ static unsigned char stack[STACK] __attribute__((aligned(4096)));
 
 static sentivolus_design design;
 
-/* What a sitting does beside the twelve codes: nothing, or reads the file. */
-enum { IDLE = 0, FILE_SETUP = 13, RESTORE = 14 };
+/* What a sitting does: nothing, the calls with one of the twelve codes, reads the file, or works on the design. */
+enum { IDLE = 0, FILE_SETUP = 13, RESTORE = 14, DESIGN = 15 };
 
-static void *sitting(void *code)
+/* Each in a frame of its own, whose bytes count too. */
+static __attribute__((noinline)) void play(session *t, uint32_t code)
 {
-    session *t = &usual;
-    uint32_t c = *(const uint32_t *)code;
     sentivolus_params p = loud();
-    float out[5];
-    if (c == FILE_SETUP)
-        sentivolus_file_setup(t->file, FILE_LEN, &t->setup, NULL);
-    else if (c == RESTORE)
+    t->setup.code = code;
+    t->setup.table.three_axes = true;
+    sentivolus_bank_open(&t->setup, &t->bank);
+    sentivolus_bank_set(&t->setup, &t->bank, 1, &p);
+    sentivolus_bank_start(&t->setup, &t->bank, 1);
+    audition(t, SLOTS);
+    render(t, SLOTS);
+    t->setup.table.three_axes = false; /* so that it is parked */
+    sentivolus_bank_park(&t->setup, &t->bank, t->file, sentivolus_file_len(&t->setup));
+}
+
+static __attribute__((noinline)) void read_file(session *t, int restored)
+{
+    if (restored)
         sentivolus_bank_restore(t->file, FILE_LEN, &t->setup, &t->bank);
-    else if (c != IDLE) {
-        t->setup.table = sentivolus_design_table(&design);
-        sentivolus_design_section(&design, 7, 0.5f, 0.5f, out);
-        t->setup.code = c;
-        sentivolus_bank_open(&t->setup, &t->bank);
-        sentivolus_bank_set(&t->setup, &t->bank, 1, &p);
-        sentivolus_bank_start(&t->setup, &t->bank, 1);
-        audition(t, SLOTS);
-        render(t, SLOTS);
-        sentivolus_bank_park(&t->setup, &t->bank, t->file, sentivolus_file_len(&t->setup));
-    }
+    else
+        sentivolus_file_setup(t->file, FILE_LEN, &t->setup, NULL);
+}
+
+static __attribute__((noinline)) void draw(session *t)
+{
+    float out[5];
+    t->setup.table = sentivolus_design_table(&design);
+    sentivolus_design_section(&design, 7, 0.5f, 0.5f, 0.5f, out);
+}
+
+static void *sitting(void *what)
+{
+    uint32_t w = *(const uint32_t *)what;
+    if (w == DESIGN)
+        draw(&usual);
+    else if (w == FILE_SETUP || w == RESTORE)
+        read_file(&usual, w == RESTORE);
+    else if (w != IDLE)
+        play(&usual, w);
     return NULL;
 }
 
-static long stack_used(uint32_t code)
+static long stack_used(uint32_t what)
 {
     pthread_attr_t attributes;
     pthread_t thread;
     long untouched = 0;
     memset(stack, PAINT, STACK);
     pthread_attr_init(&attributes);
-    check(!pthread_attr_setstack(&attributes, stack, STACK) && !pthread_create(&thread, &attributes, sitting, &code), "a thread", 0);
+    check(!pthread_attr_setstack(&attributes, stack, STACK) && !pthread_create(&thread, &attributes, sitting, &what), "a thread", 0);
     pthread_join(thread, NULL);
     while (untouched < STACK && stack[untouched] == PAINT)
         untouched++;
     return STACK - untouched;
 }
 
-static void stacks(void)
+/* Of the sittings from one to another the most bytes, without those of an idle one. */
+static long most_used(uint32_t from, uint32_t to)
 {
-    long idle, most = 0, reading = 0;
-    make(&usual, 1);
-    design = bells();
-    idle = stack_used(IDLE);
-    for (uint32_t code = 1; code <= 12; code++) {
-        long used = stack_used(code) - idle;
+    long idle = stack_used(IDLE), most = 0;
+    for (uint32_t what = from; what <= to; what++) {
+        long used = stack_used(what) - idle;
         most = used > most ? used : most;
     }
-    for (uint32_t what = FILE_SETUP; what <= RESTORE; what++) {
-        long used = stack_used(what) - idle;
-        reading = used > reading ? used : reading;
-    }
-    check(most > 1024 && most < 8192, "the calls take less than 8 KiB of stack", (int)most);
+    return most;
+}
+
+static void stacks(void)
+{
+    make(&usual, 1);
+    design = cube();
+    long drawing = most_used(DESIGN, DESIGN), calls = most_used(1, 12), reading = most_used(FILE_SETUP, RESTORE);
+    check(calls > 1024 && calls < 12288, "the calls take less than 12 KiB of stack", (int)calls);
+    check(drawing > 1024 && drawing < 24576, "a design's table and sections less than 24 KiB", (int)drawing);
     check(reading > 1024 && reading < 65536, "reading a parked file less than 64 KiB", (int)reading);
-    printf("c: %ld bytes of stack, %ld to read a parked file\n", most, reading);
+    printf("c: %ld bytes of stack, %ld for a design, %ld to read a parked file\n", calls, drawing, reading);
 }
 
 int main(void)
@@ -862,6 +1082,11 @@ int main(void)
     earlier_files();
     auditions();
     audition_refusals();
+    cubes();
+    z_settings();
+    heard_z();
+    unparkable();
+    two_axes_parked();
     stacks();
     printf("c: %d checks, %d failed\n", checks, failures);
     return failures != 0;

@@ -1,35 +1,36 @@
 //! ns a voice-sample (voice x channel x frame) of the proved library and of the Rust's scalar lane, in one run, best of several; how fast banks are
-//! parked and restored; and what an audition costs beside its block.
+//! parked and restored; what an audition costs beside its block; and what the third axis costs.
 //! Built inside the assembled oracle, so that the Rust's private `extended::dispatch` is in reach.
 use super::*;
 use std::time::Instant;
 
 unsafe extern "C" {
     fn sentivolus_block(code: u32, rate: f32, reference: f32, voices: usize, channels: usize, clean: bool,
-        active: u32, sections: *const f32, gain: f32, cursor: *mut usize, targets: *const f32, targets_len: usize,
+        active: u32, three_axes: bool, sections: *const f32, gain: f32, cursor: *mut usize, targets: *const f32, targets_len: usize,
         records: *mut f32, records_len: usize, delay: *mut f32, delay_len: usize, frames: usize, pitch: *const f32, pitch_len: usize,
         steered: bool, x: *const f32, x_len: usize, y: *const f32, y_len: usize, audio: *mut f32, audio_len: usize,
         counts: *mut u32, counts_len: usize, rendered: *mut usize) -> u32;
     fn sentivolus_audition(code: u32, rate: f32, reference: f32, voices: usize, channels: usize, clean: bool,
-        active: u32, sections: *const f32, gain: f32, cursor: usize, targets: *const f32, targets_len: usize,
+        active: u32, three_axes: bool, sections: *const f32, gain: f32, cursor: usize, targets: *const f32, targets_len: usize,
         records: *const f32, records_len: usize, delay: *const f32, delay_len: usize, scratch_cursor: *mut usize,
         scratch_targets: *mut f32, scratch_targets_len: usize, scratch_records: *mut f32, scratch_records_len: usize,
         scratch_delay: *mut f32, scratch_delay_len: usize, frames: usize, pitch: *const f32, pitch_len: usize,
         steered: bool, x: *const f32, x_len: usize, y: *const f32, y_len: usize, audio: *mut f32, audio_len: usize,
         counts: *mut u32, counts_len: usize, rendered: *mut usize) -> u32;
-    fn sentivolus_open(code: u32, rate: f32, reference: f32, voices: usize, channels: usize, clean: bool, active: u32, sections: *const f32,
-        gain: f32, targets: *mut f32, targets_len: usize, records: *mut f32, records_len: usize, delay: *mut f32, delay_len: usize) -> u32;
-    fn sentivolus_start(code: u32, rate: f32, reference: f32, voices: usize, channels: usize, clean: bool, active: u32, sections: *const f32,
-        gain: f32, targets: *const f32, targets_len: usize, records: *mut f32, records_len: usize, delay: *mut f32, delay_len: usize,
-        voice: usize) -> u32;
-    fn sentivolus_park_len(code: u32, rate: f32, reference: f32, voices: usize, channels: usize, clean: bool, active: u32, sections: *const f32,
-        gain: f32) -> usize;
-    fn sentivolus_park(code: u32, rate: f32, reference: f32, voices: usize, channels: usize, clean: bool, active: u32, sections: *const f32,
-        gain: f32, cursor: usize, targets: *const f32, targets_len: usize, records: *const f32, records_len: usize,
+    fn sentivolus_open(code: u32, rate: f32, reference: f32, voices: usize, channels: usize, clean: bool, active: u32, three_axes: bool,
+        sections: *const f32, gain: f32, targets: *mut f32, targets_len: usize, records: *mut f32, records_len: usize,
+        delay: *mut f32, delay_len: usize) -> u32;
+    fn sentivolus_start(code: u32, rate: f32, reference: f32, voices: usize, channels: usize, clean: bool, active: u32, three_axes: bool,
+        sections: *const f32, gain: f32, targets: *const f32, targets_len: usize, records: *mut f32, records_len: usize,
+        delay: *mut f32, delay_len: usize, voice: usize) -> u32;
+    fn sentivolus_park_len(code: u32, rate: f32, reference: f32, voices: usize, channels: usize, clean: bool, active: u32, three_axes: bool,
+        sections: *const f32, gain: f32) -> usize;
+    fn sentivolus_park(code: u32, rate: f32, reference: f32, voices: usize, channels: usize, clean: bool, active: u32, three_axes: bool,
+        sections: *const f32, gain: f32, cursor: usize, targets: *const f32, targets_len: usize, records: *const f32, records_len: usize,
         delay: *const f32, delay_len: usize, file: *mut u8, file_len: usize) -> u32;
     fn sentivolus_restore(file: *const u8, file_len: usize, targets: *mut f32, targets_len: usize, records: *mut f32, records_len: usize,
         delay: *mut f32, delay_len: usize, code: *mut u32, rate: *mut f32, reference: *mut f32, voices: *mut usize, channels: *mut usize,
-        clean: *mut bool, active: *mut u32, sections: *mut f32, gain: *mut f32, cursor: *mut usize) -> u32;
+        clean: *mut bool, active: *mut u32, three_axes: *mut bool, sections: *mut f32, gain: *mut f32, cursor: *mut usize) -> u32;
     fn sentivolus_root(x: f32) -> f32;
     fn sentivolus_saturation_gain(x: f32, inv_a: f32) -> f32;
     fn sentivolus_soft_clip(x: f32) -> f32;
@@ -70,7 +71,7 @@ fn parts(millis: u128) {
     let read = leaf(&|x| unsafe { sentivolus_read(ring.as_ptr(), 8192, 8192, 77, 0, x) }, 10.0, 400.0);
     println!("Leaves, ns a call: gain (exp2 and tan) {gain:.1}, saturation_gain (root) {saturation:.1}, soft_clip {clip:.1}, read {read:.1}\n");
     let mut bare = case(8, 48000.0, 16, 2, 64, false);
-    bare.engine.table = Table::of(&PoleZeroDesign::default());
+    bare.take_tables([Table::of(&PoleZeroDesign::default()); 2]);
     let base = measure(&bare, millis).0;
     println!("| code | held | of it: smoothing, steering, lag, drive, mix | roots | ring | rest of the kernel | moving pitch adds |");
     println!("|---|---|---|---|---|---|---|");
@@ -153,102 +154,145 @@ fn roots() {
     }
 }
 
-struct Case { engine: Engine, frames: usize, pitch: Vec<f32>, audio: Vec<f32> }
+/// A bank and what its blocks are given. The sections are both faces of its table; the Rust takes the near one, as does a table of two axes. Where x
+/// and y move they are steered anew in each frame; where z moves its target changes before each block, so that it glides.
+struct Case { engine: Engine, sections: Vec<f32>, frames: usize, pitch: Vec<f32>, steering: Option<[Vec<f32>; 2]>, z_moves: bool, audio: Vec<f32> }
+
+impl Case {
+    /// Takes the tables of the near and the far face.
+    fn take_tables(&mut self, [near, far]: [Table; 2]) {
+        self.sections = [near, far].iter().flat_map(|t| t.sections.iter().flatten().flatten().copied()).collect();
+        self.engine.table = near;
+    }
+
+    /// A block of the Rust's.
+    fn rust(&self, bank: &mut FilterBank, audio: &mut [f32]) {
+        let xy = self.steering.as_ref().map(|[x, y]| (&x[..], &y[..]));
+        extended::dispatch(bank, None, &self.pitch, xy, audio, self.frames);
+    }
+}
+
+/// Eight bells, at z = 0 or at z = 1.
+fn bells(face: usize) -> Table {
+    let mut d = PoleZeroDesign::default();
+    for st in 0..4 { for p in 0..8 { d.states[st].points[p] = Point::bell(60.0 * (p + 1 + st + 4 * face) as f32 * 3.0, 1.0 + p as f32, 3.0); } }
+    Table::of(&d)
+}
 
 fn case(code: u32, rate: f32, voices: usize, channels: usize, frames: usize, moving: bool) -> Case {
     let s = Setup { code, rate: rate.to_bits(), reference: 440f32.to_bits(), voices: voices as u64, channels: channels as u64, clean: false };
     let mut e = Engine::new();
     let mut r = generate::Rng::new(5);
-    if code == 8 {
-        let mut d = PoleZeroDesign::default();
-        for st in 0..4 { for p in 0..8 { d.states[st].points[p] = Point::bell(60.0 * (p + 1 + st) as f32 * 3.0, 1.0 + p as f32, 3.0); } }
-        e.table = Table::of(&d);
-    }
     e.open(s, s.needs());
     for k in 0..voices as u64 { e.set(k, &[0.7f32, 0.4, 0.3, 0.35, 2.0, 0.9, 1.0, 0.3, 0.6].map(f32::to_bits)); e.start(k); }
     let held: Vec<f32> = (0..voices).map(|_| r.range(50.0, 90.0)).collect();
     let pitch = (0..frames * voices).map(|i| if moving { r.range(50.0, 90.0) } else { held[i % voices] }).collect();
     let audio = (0..frames * voices * channels).map(|_| r.range(-0.5, 0.5)).collect();
-    Case { engine: e, frames, pitch, audio }
+    let mut c = Case { sections: vec![0.0; 320], engine: e, frames, pitch, steering: None, z_moves: false, audio };
+    if code == 8 { c.take_tables([bells(0), bells(1)]); }
+    c
 }
 
-/// Numbers a slot in records: here and in the Rust; and in the proved library, whose last one is the peak.
-const WITHOUT_PEAK: usize = 30;
-const RECORD: usize = 31;
+/// Numbers a voice in targets and a slot in records.
+#[derive(Clone, Copy)]
+struct Widths { targets: usize, records: usize }
 
-/// The engine with so many numbers a slot in its records.
-fn at_width(e: &Engine, width: usize) -> Engine {
-    let had = e.r.len() / counts_of(e).len();
-    let r = e.r.chunks(had).flat_map(|r| r.iter().copied().chain(std::iter::repeat(0.0)).take(width)).collect();
-    Engine { r, ..e.clone() }
+/// In the Rust's; and in the proved library, where targets have z, and records the peak and z.
+const RUST: Widths = Widths { targets: 10, records: 30 };
+const OURS: Widths = Widths { targets: 11, records: 32 };
+
+/// The engine with so many numbers a voice and a slot: those that it has not are 0.
+fn at_widths(e: &Engine, w: Widths) -> Engine {
+    let rows = |list: &[f32], rows: usize, width: usize| -> Vec<f32> {
+        list.chunks(list.len() / rows).flat_map(|row| row.iter().copied().chain(std::iter::repeat(0.0)).take(width)).collect()
+    };
+    let (t, r) = (rows(&e.t, e.setup.voices as usize, w.targets), rows(&e.r, counts_of(e).len(), w.records));
+    Engine { t, r, ..e.clone() }
 }
 
-/// A block of the proved library's.
-fn block(e: &mut Engine, sections: &[f32], pitch: &[f32], audio: &mut [f32], counts: &mut [u32], frames: usize) {
-    let s = e.setup;
+/// x and y as a block takes them.
+fn steering_of(c: &Case) -> [&[f32]; 2] { c.steering.as_ref().map_or([&[], &[]], |[x, y]| [x, y]) }
+
+/// A block of the proved library's, with two axes or three.
+fn block(e: &mut Engine, c: &Case, three_axes: bool, audio: &mut [f32], counts: &mut [u32]) {
+    let (s, [x, y]) = (e.setup, steering_of(c));
     let mut done = 0usize;
-    let none = std::ptr::NonNull::dangling().as_ptr();
     let refused = unsafe {
         sentivolus_block(s.code, f(s.rate), f(s.reference), s.voices as usize, s.channels as usize, false,
-            e.table.active as u32, sections.as_ptr(), e.table.gain, &mut e.cursor, e.t.as_ptr(), e.t.len(),
-            e.r.as_mut_ptr(), e.r.len(), e.d.as_mut_ptr(), e.d.len(), frames, pitch.as_ptr(), pitch.len(),
-            false, none, 0, none, 0, audio.as_mut_ptr(), audio.len(), counts.as_mut_ptr(), counts.len(), &mut done)
+            e.table.active as u32, three_axes, c.sections.as_ptr(), e.table.gain, &mut e.cursor, e.t.as_ptr(), e.t.len(),
+            e.r.as_mut_ptr(), e.r.len(), e.d.as_mut_ptr(), e.d.len(), c.frames, c.pitch.as_ptr(), c.pitch.len(),
+            c.steering.is_some(), x.as_ptr(), x.len(), y.as_ptr(), y.len(), audio.as_mut_ptr(), audio.len(),
+            counts.as_mut_ptr(), counts.len(), &mut done)
     };
-    assert_eq!((refused, done), (0, frames));
+    assert_eq!((refused, done), (0, c.frames));
 }
 
-/// The same of an earlier archive. Up to version 200 it took no counts.
+/// The same of an earlier archive. Up to version 200 it took no counts, up to 800 it had two axes alone.
 #[cfg(before)]
-fn block_before(e: &mut Engine, sections: &[f32], pitch: &[f32], audio: &mut [f32], counts: &mut [u32], frames: usize) {
-    macro_rules! block_type { ($($counts:ty),*) => { unsafe extern "C" fn(u32, f32, f32, usize, usize, bool, u32, *const f32, f32, *mut usize,
-        *const f32, usize, *mut f32, usize, *mut f32, usize, usize, *const f32, usize, bool, *const f32, usize, *const f32, usize,
-        *mut f32, usize, $($counts,)* *mut usize) -> u32 } }
-    let s = e.setup;
+fn block_before(e: &mut Engine, c: &Case, three_axes: bool, audio: &mut [f32], counts: &mut [u32]) {
+    macro_rules! block_type { ([$($three:ty)?] $($counts:ty),*) => { unsafe extern "C" fn(u32, f32, f32, usize, usize, bool, u32, $($three,)?
+        *const f32, f32, *mut usize, *const f32, usize, *mut f32, usize, *mut f32, usize, usize, *const f32, usize,
+        bool, *const f32, usize, *const f32, usize, *mut f32, usize, $($counts,)* *mut usize) -> u32 } }
+    let (s, [x, y]) = (e.setup, steering_of(c));
     let mut done = 0usize;
-    let none = std::ptr::NonNull::dangling().as_ptr();
     let name = before_sentivolus_block as *const ();
-    macro_rules! refused { ($block:ty $(, $counts:expr)*) => {
+    macro_rules! refused { ($block:ty, [$($three:expr)?] $($counts:expr),*) => {
         std::mem::transmute::<_, $block>(name)(s.code, f(s.rate), f(s.reference), s.voices as usize, s.channels as usize, false,
-            e.table.active as u32, sections.as_ptr(), e.table.gain, &mut e.cursor, e.t.as_ptr(), e.t.len(),
-            e.r.as_mut_ptr(), e.r.len(), e.d.as_mut_ptr(), e.d.len(), frames, pitch.as_ptr(), pitch.len(),
-            false, none, 0, none, 0, audio.as_mut_ptr(), audio.len(), $($counts,)* &mut done)
+            e.table.active as u32, $($three,)? c.sections.as_ptr(), e.table.gain, &mut e.cursor, e.t.as_ptr(), e.t.len(),
+            e.r.as_mut_ptr(), e.r.len(), e.d.as_mut_ptr(), e.d.len(), c.frames, c.pitch.as_ptr(), c.pitch.len(),
+            c.steering.is_some(), x.as_ptr(), x.len(), y.as_ptr(), y.len(), audio.as_mut_ptr(), audio.len(), $($counts,)* &mut done)
     } }
     let refused = unsafe {
-        if before_sentivolus_version() <= 200 { refused!(block_type!()) }
-        else { refused!(block_type!(*mut u32, usize), counts.as_mut_ptr(), counts.len()) }
+        match before_sentivolus_version() {
+            ..=200 => refused!(block_type!([]), []),
+            ..=800 => refused!(block_type!([] *mut u32, usize), [] counts.as_mut_ptr(), counts.len()),
+            _ => refused!(block_type!([bool] *mut u32, usize), [three_axes] counts.as_mut_ptr(), counts.len()),
+        }
     };
-    assert_eq!((refused, done), (0, frames));
+    assert_eq!((refused, done), (0, c.frames));
 }
 
-fn sections_of(e: &Engine) -> Vec<f32> { e.table.sections.iter().flatten().flatten().copied().collect() }
+#[cfg(before)]
+fn widths_before() -> Widths {
+    match unsafe { before_sentivolus_version() } { ..=600 => RUST, ..=800 => Widths { records: 31, ..RUST }, _ => OURS }
+}
 
 fn counts_of(e: &Engine) -> Vec<u32> { vec![0; (e.setup.voices * e.setup.channels) as usize] }
 
-/// A block, of this archive or of an earlier one: engine, sections, pitch, audio, counts, frames. With it the width of its records.
-type Block = (fn(&mut Engine, &[f32], &[f32], &mut [f32], &mut [u32], usize), usize);
+/// A block of an archive: engine, case, whether with three axes, audio, counts. With it the archive's widths, and the axes that are timed.
+#[derive(Clone, Copy)]
+struct Timed { block: fn(&mut Engine, &Case, bool, &mut [f32], &mut [u32]), widths: Widths, three_axes: bool }
 
-const OURS: Block = (block, RECORD);
+const TWO_AXES: Timed = Timed { block, widths: OURS, three_axes: false };
+const THREE_AXES: Timed = Timed { three_axes: true, ..TWO_AXES };
+
+impl Timed {
+    /// A block, z's targets changed where it moves.
+    fn run(&self, e: &mut Engine, c: &Case, audio: &mut [f32], counts: &mut [u32]) {
+        if c.z_moves { e.t.chunks_mut(self.widths.targets).filter_map(|t| t.get_mut(10)).for_each(|z| *z = 1.0 - *z); }
+        (self.block)(e, c, self.three_axes, audio, counts);
+    }
+}
 
 /// Best of several runs of each block and of the Rust, all taking turns. With `anew` each run starts from the case's state, which is put back outside
 /// of the time taken.
-fn measure_each<const N: usize>(c: &Case, millis: u128, anew: bool, blocks: [Block; N]) -> ([f64; N], f64) {
+fn measure_each<const N: usize>(c: &Case, millis: u128, anew: bool, blocks: [Timed; N]) -> ([f64; N], f64) {
     let per = c.audio.len();
     let reps = (16_000 / per).max(1);
-    let sections = sections_of(&c.engine);
     let mut counts = counts_of(&c.engine);
-    let mut ours = blocks.map(|(_, width)| at_width(&c.engine, width));
+    let mut ours = blocks.map(|b| at_widths(&c.engine, b.widths));
     let mut bank = c.engine.clone().bank();
     let mut audio = c.audio.clone();
     let (mut best, mut rust) = ([f64::MAX; N], f64::MAX);
     let begun = Instant::now();
     while begun.elapsed().as_millis() < millis {
-        if anew { (ours, bank) = (blocks.map(|(_, width)| at_width(&c.engine, width)), c.engine.clone().bank()); }
+        if anew { (ours, bank) = (blocks.map(|b| at_widths(&c.engine, b.widths)), c.engine.clone().bank()); }
         let t = Instant::now();
-        for _ in 0..reps { audio.copy_from_slice(&c.audio); extended::dispatch(&mut bank, None, &c.pitch, None, &mut audio, c.frames); }
+        for _ in 0..reps { audio.copy_from_slice(&c.audio); c.rust(&mut bank, &mut audio); }
         rust = rust.min(t.elapsed().as_nanos() as f64 / (reps * per) as f64);
-        for (((block, _), engine), best) in blocks.iter().zip(&mut ours).zip(&mut best) {
+        for ((timed, engine), best) in blocks.iter().zip(&mut ours).zip(&mut best) {
             let t = Instant::now();
-            for _ in 0..reps { audio.copy_from_slice(&c.audio); block(engine, &sections, &c.pitch, &mut audio, &mut counts, c.frames); }
+            for _ in 0..reps { audio.copy_from_slice(&c.audio); timed.run(engine, c, &mut audio, &mut counts); }
             *best = best.min(t.elapsed().as_nanos() as f64 / (reps * per) as f64);
         }
     }
@@ -257,7 +301,7 @@ fn measure_each<const N: usize>(c: &Case, millis: u128, anew: bool, blocks: [Blo
 }
 
 fn measure_from(c: &Case, millis: u128, anew: bool) -> (f64, f64) {
-    let ([ours], rust) = measure_each(c, millis, anew, [OURS]);
+    let ([ours], rust) = measure_each(c, millis, anew, [TWO_AXES]);
     (ours, rust)
 }
 
@@ -266,16 +310,15 @@ fn measure(c: &Case, millis: u128) -> (f64, f64) { measure_from(c, millis, false
 /// The case after a second of its noise and five of zeros, and zeros to come. By then a block's cost stands still in every code, and is the same
 /// after ten: a tail does not reach zero but goes on in subnormal states.
 fn decayed(mut c: Case) -> Case {
-    let sections = sections_of(&c.engine);
     let mut counts = counts_of(&c.engine);
     let second = f(c.engine.setup.rate) as usize / c.frames;
     let mut audio = c.audio.clone();
-    let mut ours = at_width(&c.engine, RECORD);
+    let mut ours = at_widths(&c.engine, OURS);
     for k in 0..6 * second {
         if k < second { audio.copy_from_slice(&c.audio); } else { audio.fill(0.0); }
-        block(&mut ours, &sections, &c.pitch, &mut audio, &mut counts, c.frames);
+        TWO_AXES.run(&mut ours, &c, &mut audio, &mut counts);
     }
-    c.engine = at_width(&ours, WITHOUT_PEAK);
+    c.engine = at_widths(&ours, RUST);
     c.audio.fill(0.0);
     c
 }
@@ -298,19 +341,19 @@ fn silence(millis: u128) {
 
 /// Microseconds of open, 16 voices stereo, and of start, at a rate.
 fn opening(rate: f32) -> (f64, f64) {
-    let mut e = at_width(&case(9, rate, 16, 2, 1, false).engine, RECORD);
-    let sections = [0f32; 160];
+    let mut e = at_widths(&case(9, rate, 16, 2, 1, false).engine, OURS);
+    let sections = [0f32; 320];
     let mut best = (f64::MAX, f64::MAX);
     for _ in 0..20 {
         let t = Instant::now();
         let refused = unsafe {
-            sentivolus_open(9, rate, 440.0, 16, 2, false, 0, sections.as_ptr(), 1.0, e.t.as_mut_ptr(), e.t.len(), e.r.as_mut_ptr(), e.r.len(),
+            sentivolus_open(9, rate, 440.0, 16, 2, false, 0, false, sections.as_ptr(), 1.0, e.t.as_mut_ptr(), e.t.len(), e.r.as_mut_ptr(), e.r.len(),
                 e.d.as_mut_ptr(), e.d.len())
         };
         best.0 = best.0.min(t.elapsed().as_nanos() as f64 / 1000.0);
         let t = Instant::now();
         let started = unsafe {
-            sentivolus_start(9, rate, 440.0, 16, 2, false, 0, sections.as_ptr(), 1.0, e.t.as_ptr(), e.t.len(), e.r.as_mut_ptr(), e.r.len(),
+            sentivolus_start(9, rate, 440.0, 16, 2, false, 0, false, sections.as_ptr(), 1.0, e.t.as_ptr(), e.t.len(), e.r.as_mut_ptr(), e.r.len(),
                 e.d.as_mut_ptr(), e.d.len(), 3)
         };
         best.1 = best.1.min(t.elapsed().as_nanos() as f64 / 1000.0);
@@ -323,7 +366,7 @@ fn opening(rate: f32) -> (f64, f64) {
 fn park_len(e: &Engine, sections: &[f32]) -> usize {
     let s = e.setup;
     unsafe {
-        sentivolus_park_len(s.code, f(s.rate), f(s.reference), s.voices as usize, s.channels as usize, s.clean, e.table.active as u32,
+        sentivolus_park_len(s.code, f(s.rate), f(s.reference), s.voices as usize, s.channels as usize, s.clean, e.table.active as u32, false,
             sections.as_ptr(), e.table.gain)
     }
 }
@@ -331,7 +374,7 @@ fn park_len(e: &Engine, sections: &[f32]) -> usize {
 fn park(e: &Engine, sections: &[f32], file: &mut [u8]) {
     let s = e.setup;
     let refused = unsafe {
-        sentivolus_park(s.code, f(s.rate), f(s.reference), s.voices as usize, s.channels as usize, s.clean, e.table.active as u32,
+        sentivolus_park(s.code, f(s.rate), f(s.reference), s.voices as usize, s.channels as usize, s.clean, e.table.active as u32, false,
             sections.as_ptr(), e.table.gain, e.cursor, e.t.as_ptr(), e.t.len(), e.r.as_ptr(), e.r.len(), e.d.as_ptr(), e.d.len(),
             file.as_mut_ptr(), file.len())
     };
@@ -341,21 +384,21 @@ fn park(e: &Engine, sections: &[f32], file: &mut [u8]) {
 /// Restores the lists and the cursor; the setup that comes with them is left.
 fn restore(e: &mut Engine, file: &[u8]) {
     let (mut code, mut rate, mut reference, mut voices, mut channels, mut clean) = (0, 0.0, 0.0, 0, 0, false);
-    let (mut active, mut sections, mut gain) = (0, [0f32; 160], 0.0);
+    let (mut active, mut three_axes, mut sections, mut gain) = (0, false, [0f32; 320], 0.0);
     let refused = unsafe {
         sentivolus_restore(file.as_ptr(), file.len(), e.t.as_mut_ptr(), e.t.len(), e.r.as_mut_ptr(), e.r.len(), e.d.as_mut_ptr(), e.d.len(),
-            &mut code, &mut rate, &mut reference, &mut voices, &mut channels, &mut clean, &mut active, sections.as_mut_ptr(), &mut gain,
-            &mut e.cursor)
+            &mut code, &mut rate, &mut reference, &mut voices, &mut channels, &mut clean, &mut active, &mut three_axes, sections.as_mut_ptr(),
+            &mut gain, &mut e.cursor)
     };
     assert_eq!(refused, 0);
 }
 
 /// ns of a park, of a restore, and of a restore whose blocks stand from the last to the first, taking turns; and the file's blocks.
 fn measure_parking(rate: f32, voices: usize, channels: usize, millis: u128) -> ([f64; 3], usize) {
-    let mut e = at_width(&case(9, rate, voices, channels, 1, false).engine, RECORD);
+    let Case { engine, sections, .. } = case(9, rate, voices, channels, 1, false);
+    let mut e = at_widths(&engine, OURS);
     let mut r = generate::Rng::new(6);
     e.d.iter_mut().for_each(|x| *x = r.range(-0.5, 0.5));
-    let sections = sections_of(&e);
     let mut file = vec![0; park_len(&e, &sections)];
     park(&e, &sections, &mut file);
     let reversed: Vec<u8> = file.rchunks_exact(512).flatten().copied().collect();
@@ -391,18 +434,19 @@ fn parking(millis: u128) {
 }
 
 /// A block of the proved library's, on a copy in the lists of `scratch`.
-fn audition(e: &Engine, scratch: &mut Engine, sections: &[f32], pitch: &[f32], audio: &mut [f32], counts: &mut [u32], frames: usize) {
-    let s = e.setup;
+fn audition(e: &Engine, scratch: &mut Engine, c: &Case, audio: &mut [f32], counts: &mut [u32]) {
+    let (s, [x, y]) = (e.setup, steering_of(c));
     let mut done = 0usize;
-    let none = std::ptr::NonNull::dangling().as_ptr();
     let refused = unsafe {
         sentivolus_audition(s.code, f(s.rate), f(s.reference), s.voices as usize, s.channels as usize, false,
-            e.table.active as u32, sections.as_ptr(), e.table.gain, e.cursor, e.t.as_ptr(), e.t.len(), e.r.as_ptr(), e.r.len(), e.d.as_ptr(), e.d.len(),
+            e.table.active as u32, false, c.sections.as_ptr(), e.table.gain, e.cursor,
+            e.t.as_ptr(), e.t.len(), e.r.as_ptr(), e.r.len(), e.d.as_ptr(), e.d.len(),
             &mut scratch.cursor, scratch.t.as_mut_ptr(), scratch.t.len(), scratch.r.as_mut_ptr(), scratch.r.len(),
-            scratch.d.as_mut_ptr(), scratch.d.len(), frames, pitch.as_ptr(), pitch.len(), false, none, 0, none, 0,
+            scratch.d.as_mut_ptr(), scratch.d.len(), c.frames, c.pitch.as_ptr(), c.pitch.len(),
+            c.steering.is_some(), x.as_ptr(), x.len(), y.as_ptr(), y.len(),
             audio.as_mut_ptr(), audio.len(), counts.as_mut_ptr(), counts.len(), &mut done)
     };
-    assert_eq!((refused, done), (0, frames));
+    assert_eq!((refused, done), (0, c.frames));
 }
 
 fn middle(mut times: Vec<f64>) -> f64 {
@@ -413,8 +457,7 @@ fn middle(mut times: Vec<f64>) -> f64 {
 /// Middle microseconds of a block, of its audition and of a plain copy of the three lists, taking turns: the copy and the audition to the same scratch,
 /// then the block, which moves the bank on.
 fn measure_audition(c: &Case, millis: u128) -> [f64; 3] {
-    let sections = sections_of(&c.engine);
-    let mut bank = at_width(&c.engine, RECORD);
+    let mut bank = at_widths(&c.engine, OURS);
     let mut scratch = bank.clone();
     let (mut audio, mut heard) = (c.audio.clone(), c.audio.clone());
     let (mut counts, mut heard_counts) = (counts_of(&bank), counts_of(&bank));
@@ -432,8 +475,8 @@ fn measure_audition(c: &Case, millis: u128) -> [f64; 3] {
             for (to, from) in [(&mut scratch.t, &bank.t), (&mut scratch.r, &bank.r), (&mut scratch.d, &bank.d)] { to.copy_from_slice(from); }
             std::hint::black_box(&mut scratch);
         });
-        time(1, &mut || audition(&bank, &mut scratch, &sections, &c.pitch, &mut heard, &mut heard_counts, c.frames));
-        time(0, &mut || block(&mut bank, &sections, &c.pitch, &mut audio, &mut counts, c.frames));
+        time(1, &mut || audition(&bank, &mut scratch, c, &mut heard, &mut heard_counts));
+        time(0, &mut || block(&mut bank, c, false, &mut audio, &mut counts));
         assert!(heard == audio && heard_counts == counts && scratch.cursor == bank.cursor);
         assert!(scratch.t == bank.t && scratch.r == bank.r && scratch.d == bank.d);
     }
@@ -442,7 +485,7 @@ fn measure_audition(c: &Case, millis: u128) -> [f64; 3] {
 
 fn auditions(millis: u128) {
     let of = |code: u32| case(code, 48000.0, 16, 2, 64, false);
-    let lists = at_width(&of(1).engine, RECORD);
+    let lists = at_widths(&of(1).engine, OURS);
     let bytes = 4 * (lists.t.len() + lists.r.len() + lists.d.len());
     println!("Auditions, 16 voices stereo, 64 frames, held pitch, rate 48000: us, middle of the runs. The lists to copy have {bytes} bytes\n");
     println!("| code | block | audition | audition - block (share of the audition) | a plain copy of the lists |");
@@ -475,11 +518,7 @@ fn grid(millis: u128) {
 /// An earlier archive, this one and the Rust, taking turns.
 #[cfg(before)]
 fn before(millis: u128) {
-    let width = if unsafe { before_sentivolus_version() } <= 600 { WITHOUT_PEAK } else { RECORD };
-    let each = |c: &Case| {
-        let blocks: [Block; 2] = [(block_before, width), OURS];
-        measure_each(c, millis, false, blocks)
-    };
+    let each = |c: &Case| measure_each(c, millis, false, [Timed { block: block_before, widths: widths_before(), three_axes: false }, TWO_AXES]);
     println!("| code | pitch | voices x channels / frames: before, after, Rust (after over before) | | | |");
     println!("|---|---|---|---|---|---|");
     println!("| | | 1x1/64 | 1x1/4096 | 16x2/64 | 16x2/4096 |");
@@ -508,6 +547,25 @@ fn before(millis: u128) {
     }
 }
 
+/// PoleZero with two axes and with three, and the Rust, which has two, taking turns.
+fn axes(millis: u128) {
+    println!("PoleZero, eight sections, 64 frames a block: ns a voice-sample with two axes, with three (three over two); the Rust, with two\n");
+    println!("| what moves | 1x1 | 16x2 |");
+    println!("|---|---|---|");
+    for (what, pitch, xy, z_moves) in [("nothing", false, false, false), ("z", false, false, true), ("x and y", false, true, false),
+        ("x, y and z", false, true, true), ("pitch", true, false, false)] {
+        let mut row = format!("| {what}");
+        for (v, n) in [(1, 1), (16, 2)] {
+            let mut r = generate::Rng::new(7);
+            let mut c = Case { z_moves, ..case(8, 48000.0, v, n, 64, pitch) };
+            if xy { c.steering = Some([(); 2].map(|()| (0..64 * v).map(|_| r.range(-0.3, 0.4)).collect())); }
+            let ([two, three], rust) = measure_each(&c, millis, false, [TWO_AXES, THREE_AXES]);
+            row += &format!(" | {two:.1}, {three:.1} ({:.2}); {rust:.1}", three / two);
+        }
+        println!("{row} |");
+    }
+}
+
 fn growth(millis: u128) {
     println!("\nGrowth, ours, code 9 (Comb2), held pitch, ns a voice-sample:");
     for (what, v, n, frames, rate) in [("1 voice mono, 64 frames", 1, 1, 64, 48000.0), ("4 voices", 4, 1, 64, 48000.0),
@@ -528,6 +586,7 @@ pub fn main() {
         Some("silence") => return silence(millis),
         Some("park") => return parking(millis),
         Some("audition") => return auditions(millis),
+        Some("axes") => return axes(millis),
         _ => (),
     }
     #[cfg(before)]
@@ -548,4 +607,6 @@ fn every(millis: u128) {
     parking(millis);
     println!();
     auditions(millis);
+    println!();
+    axes(millis);
 }

@@ -40,7 +40,7 @@ LIBRARY = {
     "take": (2, lambda n, items: items[:n]), "drop": (2, lambda n, items: items[n:]),
     "replicate": (2, lambda n, item: [item] * n), "min": (2, min), "max": (2, max),
     "eqb": (2, lambda a, b: a == b), "leb": (2, lambda a, b: a <= b), "ltb": (2, lambda a, b: a < b),
-    "true": (0, True), "false": (0, False), "_&&_": (2, lambda a, b: a and b), "_||_": (2, lambda a, b: a or b),
+    "true": (0, True), "false": (0, False), "not": (1, lambda a: not a), "_&&_": (2, lambda a, b: a and b), "_||_": (2, lambda a, b: a or b),
     "_∷_": (2, lambda a, items: [a] + items), "_++_": (2, lambda a, b: a + b),
     "_+_": (2, lambda a, b: a + b), "_-_": (2, lambda a, b: max(a - b, 0)), "_*_": (2, lambda a, b: a * b),
     "_/_": (2, lambda a, b: a // b), "_%_": (2, lambda a, b: a % b), "_^_": (2, lambda a, b: a ** b),

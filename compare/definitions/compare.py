@@ -9,12 +9,18 @@ sys.setrecursionlimit(20000)
 
 from antt import Definitions
 from rust import Rust, Type
-from trees import Tree
+from trees import Tree, literal
 
 ROOT = os.path.join(os.path.dirname(os.path.abspath(__file__)), "..", "..")
 RUST = os.path.join(ROOT, "..", "shared", "docs", "src", "crates", "dsp", "src", "filter")
 SHOWN = 20  # differences printed at most
 VOICES = 2  # of the blocks compared
+
+# ---- what document 02 adds, in Rust
+
+PEAK = "a.max_(abs(b))"      # a slot's peak (C-15): of the peak before, a, and the sample handed back, b
+GLIDE = "(a - b).fma(c, b)"  # z (C-17) on its way, as x and y: of its target a, z before b, and alpha c
+BETWEEN = "a + c * (b - a)"  # a number of a section with three axes: of the two faces' numbers a and b, and z c
 
 # ---- the table of names: after a renaming, this part alone changes
 
@@ -30,13 +36,13 @@ LEAVES = (
     ("lines.Lines.minDelay", "MIN_DELAY"),
     ("lines.Lines.hermiteOf", "hermite(a, b, c, d, e)"),
     ("points.Points.defaultPoint", "Point::default()"),
+    ("points.Points.between", BETWEEN),
     ("filter.Filter.ratioOf", "ratio_of(a, b)"),
     ("filter.Filter.gainOf", "gain(a, b)"),
     ("filter.Filter.svfOf", "let (band, low) = svf(&mut a, &mut b, c, d, e); [a, b, band, low]"),
     ("filter.Filter.svfK", "svf_k(a, b, c)"),
     ("filter.Filter.saturatedK", "saturated_k(a, b, c, d)"),
-    ("filter.Voice.defaultParams", "VoiceParams::default()"),
-    ("filter.Voice.morphTargetsOf", "morph_targets_of(&a)"),
+    ("filter.Voice.defaultParams", "(VoiceParams::default(), 0.0)"),
     ("extended.Extended.unitOr0", "unit(a)"),
     ("extended.Extended.absOf", "abs(a)"),
     ("extended.Extended.asymSlope", "ASYM_SLOPE"),
@@ -47,15 +53,17 @@ LEAVES = (
 )
 
 # the definitions that the functions below ask for
-TARGETS = "filter.Voice.targetsOf"
+TARGETS = "filter.Voice.voiceTargets"
 SMOOTH = "extended.Extended.smoothMark"
 LINES = "extended.Extended.linesMark"
 KERNEL = "kernels.Kernels.kernelOf"
 CONSTANTS = "run.Run.constantsOf"
 SIGN = "run.Run.signOf"
 TICK = "run.Run.tickWith"
+LAGGED = (18, 19)  # a slot's states with x and y after the lag
 LIMIT = "filter.Filter.ratioLimit"
 COUNT = "kernels.Kernels.overCount"
+BLEND = "poles.Poles.blendOf"
 POINT_SECTION = "points.Points.sectionOf"
 VALUES = "points.Points.values"
 DEFAULT_STATE = "points.Points.defaultState"
@@ -67,9 +75,6 @@ PARAMETERS = {"p": "settings", "k": "constants", "st": "steering", "rec": "numbe
 KERNEL_FIELDS = ("out", "state", "ring")
 TICK_FIELDS = ("out", "rec", "ring")
 TICK_COUNT = "over"
-
-# document 02's rule for a slot's peak (C-15), in Rust: of the peak before, a, and the sample handed back, b
-PEAK = "a.max_(abs(b))"
 
 # fields of CONSTANTS, and the variables of Run::go that they are
 CONSTANT_FIELDS = (("alpha", "alpha"), ("clip_in", "clip_in"), ("clip_out", "clip_out"), ("smooth_samples", "smooth_samples"),
@@ -106,12 +111,13 @@ CODES = {
     5: Type("DiodeLadder", CLEAN=False), 6: Type("DiodeLadder", CLEAN=True), 7: Type("TransistorLadder", DRIVEN=True),
     8: Type("PoleZero"), 9: Type("Comb2"), 10: Type("Expander", BAND=False), 11: Type("Expander", BAND=True), 12: Type("K35"),
 }
-SKIPPED = (range(8), (), (1, 4, 6), (0, 3, 7), (7,), range(7))  # of each design compared, the points that are bypassed in all states
+SKIPPED = (range(8), (), (1, 4, 6), (0, 3, 7), (7,), range(7))  # of each design compared, the points that are bypassed in a face's states
+FACE = 160  # numbers of a table's face
 KINDS = ("HighPass", "LowPass", "Bypass", "AllPass", "BandPass", "Notch", "Bell", "Free")
 
 # ---- what is given to both sides
 
-VOICE = ("resonance", "drive", "saturation", "character", "stereo_offset", "mix", "level", "morph_x", "morph_y")
+VOICE = ("resonance", "drive", "saturation", "character", "stereo_offset", "mix", "level", "morph_x", "morph_y", "morph_z")
 FORMS = (Tree("nan"), Tree("inf", "sign"), Tree("fin", "sign", "digits", "exponent"))  # every float is one of these
 
 
@@ -125,12 +131,12 @@ def record(names):
     return {name: Tree(name) for name in names}
 
 
-def table(active):
-    """A design's table, for the definitions and for the Rust."""
-    numbers = floats("t", 160)
+def table(active, three):
+    """A design's table, for the definitions and for the Rust, which has the near face alone."""
+    numbers = floats("t", 2 * FACE)
     nested = [[numbers[20 * s + 4 * v:20 * s + 4 * v + 4] for v in range(5)] for s in range(8)]
     common = {"active": active, "gain": Tree("gain")}
-    return {"sections": numbers, **common}, {"": "Table", "sections": nested, **common}
+    return {"sections": numbers, "three": three, **common}, {"": "Table", "sections": nested, **common}
 
 
 def point(kind, mark):
@@ -142,28 +148,34 @@ def point(kind, mark):
     return {"kind": Tree(kind, *carried), "frequency": f, "q": q}, rust
 
 
-def design(number):
-    """A design of mixed kinds, for both sides."""
+def design(number, three):
+    """A design of mixed kinds for the definitions, and its two faces as designs of the Rust's."""
     def kind(state, place):
-        return "Bypass" if place in SKIPPED[number] else KINDS[(3 * place + 5 * state + number) % 8]
-    pairs = [[point(kind(s, p), "_%d_%d" % (s, p)) for p in range(8)] for s in range(4)]
+        skipped = SKIPPED[(number + state // 4) % len(SKIPPED)]
+        return "Bypass" if place in skipped else KINDS[(3 * place + 5 * state + number) % 8]
+    pairs = [[point(kind(s, p), "_%d_%d" % (s, p)) for p in range(8)] for s in range(8)]
     gain = Tree("design_gain_db")
-    definition = {"states": [{"points": [d for d, _ in state]} for state in pairs], "gain_db": gain}
-    rust = {"": "PoleZeroDesign", "states": [{"": "State", "points": [r for _, r in state]} for state in pairs], "gain_db": gain}
-    return definition, rust
+    definition = {"states": [{"points": [d for d, _ in state]} for state in pairs], "three": three, "gain_db": gain}
+    states = [{"": "State", "points": [r for _, r in state]} for state in pairs]
+    return definition, [{"": "PoleZeroDesign", "states": face, "gain_db": gain} for face in (states[:4], states[4:])]
+
+
+def voice_targets(voice):
+    """A voice's eleven targets."""
+    return floats("target%d_" % voice, 11)
 
 
 def slot(i):
-    """What a slot has before a frame: its input, its ten smoothed numbers, twenty states and peak, its ring."""
-    return {"input": Tree("in%d" % i), "numbers": floats("number%d_" % i, 31), "ring": Tree("ring%d" % i)}
+    """What a slot has before a frame: its input; its ten smoothed numbers, twenty states, peak and z; its ring."""
+    return {"input": Tree("in%d" % i), "numbers": floats("number%d_" % i, 32), "ring": Tree("ring%d" % i)}
 
 
 def rust_bank(clean, channels, slots, rust_table):
-    """The Rust's bank with these slots. It has no peaks."""
+    """The Rust's bank with these slots. It has no peaks and no z."""
     rows = [list(row) for row in zip(*[each["numbers"] for each in slots])]
-    targets = [list(row) for row in zip(*[floats("target%d_" % voice, 10) for voice in range(VOICES)])]
+    targets = [list(row) for row in zip(*[voice_targets(voice) for voice in range(VOICES)])]
     return {"": "FilterBank", "voices": VOICES, "channels": channels, "stride": VOICES, "clean": clean, "rate": Tree("rate"),
-            "reference": Tree("reference"), "targets": targets[:8], "morph_targets": targets[8:], "smoothed": rows[:8],
+            "reference": Tree("reference"), "targets": targets[:8], "morph_targets": targets[8:10], "smoothed": rows[:8],
             "morph_smoothed": rows[8:10], "state": rows[10:30], "delay": [each["ring"] for each in slots],
             "ring": Tree("len"), "cursor": Tree("cursor"), "pole_zero": rust_table}
 
@@ -186,6 +198,16 @@ def parts_of(value):
             seen.add(tree)
             todo.extend(flat(tree.parts))
     return seen
+
+
+def replaced(value, others):
+    """A value with trees exchanged for others, wherever they stand in it; `others` keeps what was worked out."""
+    if isinstance(value, list):
+        return [replaced(part, others) for part in value]
+    if isinstance(value, Tree) and value not in others:
+        parts = [replaced(part, others) if isinstance(part, Tree) else part for part in value.parts]
+        others[value] = Tree(value.name, *parts)
+    return others.get(value, value)
 
 
 def parting(a, b):
@@ -251,10 +273,12 @@ class Comparison:
             self.same(name, value(*given) if arity else value, self.rust.evaluate(text, dict(zip("abcdefgh", given))))
 
     def targets(self):
-        """targets_of, with the offset and the level in each form that a float has."""
+        """targets_of, with the offset and the level in each form that a float has, and morph_targets_of; z is treated as x is."""
         for form in FORMS:
             voice = {**record(VOICE), "stereo_offset": form, "level": form}
-            self.same(TARGETS + " at " + form.name, self.definitions.value(TARGETS)(voice), self.rust.call("targets_of", voice))
+            z, _ = self.rust.call("morph_targets_of", {**voice, "morph_x": voice["morph_z"]})
+            theirs = [self.rust.call("targets_of", voice), self.rust.call("morph_targets_of", voice), z]
+            self.same(TARGETS + " at " + form.name, self.definitions.value(TARGETS)(voice), theirs)
 
     def marks(self):
         """SMOOTH and LINES of each code."""
@@ -263,18 +287,29 @@ class Comparison:
             self.same("LINES of %d" % code, self.definitions.value(LINES)(code), self.rust.evaluate("T::LINES", {"T": kind}))
 
     def kernels(self):
-        """Each code's kernel, PoleZero's at several numbers of active sections; a code that is none leaves everything."""
+        """Each code's kernel, PoleZero's at several numbers of active sections and both numbers of axes; a code that is none leaves everything."""
         for code in CODES:
             for active in (0, 1, 2, 3, 4, 5, 6, 7, 8, 9, 100) if code == 8 else (3,):
-                self.kernel(code, active)
+                for three in self.axes(code):
+                    self.kernel(code, active, three)
         for code in (0, 13):
-            given, _, _ = self.kernel_given(code, 3)
+            given, _, _ = self.kernel_given(code, 3, False)
             self.same("code %d" % code, self.kernel_value(given), [given["x"], given["state"], given["ring"]])
 
-    def kernel_given(self, code, active):
+    def axes(self, code):
+        """Whether there are three axes: PoleZero's may be two or three."""
+        return (False, True) if code == 8 else (False,)
+
+    def at_z(self, left, numbers, x, y, z):
+        """What the Rust leaves, with each two-axis number of a section, at x and y, exchanged for the one between the faces at z."""
+        blend = self.definitions.value(BLEND)
+        pairs = [(blend(numbers, i, x, y), blend(numbers, FACE + i, x, y)) for i in range(0, FACE, 4)]
+        return replaced(left, {a: self.rust.evaluate(BETWEEN, {"a": a, "b": b, "c": z}) for a, b in pairs})
+
+    def kernel_given(self, code, active, three):
         """A kernel's arguments by name, the Rust's settings and its lines."""
-        ours, theirs = table(active)
-        settings = record(("resonance", "inv_knee", "character", "x", "y", "ref_over_rate", "reference_ratio"))
+        ours, theirs = table(active, three)
+        settings = record(("resonance", "inv_knee", "character", "x", "y", "z", "ref_over_rate", "reference_ratio"))
         given = {"code": code, "table": ours, **ours, "len": Tree("len"), "cursor": Tree("cursor"), "pitch": Tree("pitch"),
                  "settings": settings, "state": floats("s", 20), "ring": Tree("ring"), "x": Tree("in")}
         lines = {"": "Lines", "buf": [Tree("ring")], "len": Tree("len"), "cursor": Tree("cursor"), "slot": 0}
@@ -285,15 +320,18 @@ class Comparison:
         value = self.definitions.call(KERNEL, given, PARAMETERS)
         return [value[field] for field in KERNEL_FIELDS]
 
-    def kernel(self, code, active):
+    def kernel(self, code, active, three):
         """One kernel: its sample, its twenty states, its ring."""
-        given, settings, lines = self.kernel_given(code, active)
+        given, settings, lines = self.kernel_given(code, active, three)
         ours = self.kernel_value(given)
         theirs = {"T": CODES[code], "lines": lines, "state": list(given["state"]), "x": given["x"], "pitch": given["pitch"], "p": settings}
         out = self.rust.evaluate("T::tick(&mut lines, &mut state, x, pitch, &p)", theirs)
         left = [out, theirs["state"], lines["buf"][0]]
-        self.same("kernel %d at %d active" % (code, active), ours, left)
-        self.judged("kernel %d at %d active" % (code, active), code, active, self.definitions.call(COUNT, given, PARAMETERS), left)
+        if three:
+            left = self.at_z(left, given["sections"], settings["x"], settings["y"], self.rust.evaluate("unit(a)", {"a": settings["z"]}))
+        what = "kernel %d at %d active, three axes %s" % (code, active, three)
+        self.same(what, ours, left)
+        self.judged(what, code, active, self.definitions.call(COUNT, given, PARAMETERS), left)
 
     def judged(self, what, code, active, count, left):
         """Document 02, C-11: the ratios judged are those that the Rust caps: once a section, by Comb2 twice, else once."""
@@ -309,11 +347,12 @@ class Comparison:
             for clean in (False, True):
                 for steered in (False, True):
                     for channels in (1, 2):
-                        self.block(code, clean, steered, channels)
+                        for three in self.axes(code):
+                            self.block(code, clean, steered, channels, three)
 
-    def block(self, code, clean, steered, channels):
+    def block(self, code, clean, steered, channels, three):
         """Run::go whole, on two voices, against the definitions of the block's constants and of each slot's tick."""
-        ours, theirs = table(5)
+        ours, theirs = table(5, three)
         slots = [slot(i) for i in range(channels * VOICES)]
         bank = rust_bank(clean, channels, slots, theirs)
         offsets = [floats("sx", VOICES), floats("sy", VOICES)]
@@ -328,13 +367,17 @@ class Comparison:
             channel, voice = divmod(i, VOICES)
             steering = Tree("some", (offsets[0][voice], offsets[1][voice])) if steered else Tree("none")
             given = {**each, "code": code, "constants": constants, "table": ours, **ours, "len": Tree("len"), "cursor": Tree("cursor"),
-                     "targets": floats("target%d_" % voice, 10), "pitch": run["pitch"][voice], "steering": steering,
+                     "targets": voice_targets(voice), "pitch": run["pitch"][voice], "steering": steering,
                      "sign": self.definitions.value(SIGN)(channels, channel)}
             tick = self.definitions.call(TICK, given, PARAMETERS)
             kept = [row[i] for part in ("smoothed", "morph_smoothed", "state") for row in bank[part]]
-            what = "%d, clean %s, steered %s, channel %d of %d, voice %d" % (code, clean, steered, channel, channels, voice)
-            peak = self.rust.evaluate(PEAK, {"a": each["numbers"][30], "b": run["audio"][i]})
-            left = [run["audio"][i], kept + [peak], bank["delay"][i]]
+            what = "%d, clean %s, steered %s, three axes %s, channel %d of %d, voice %d" % (code, clean, steered, three, channel, channels, voice)
+            z = self.rust.evaluate(GLIDE, {"a": given["targets"][10], "b": each["numbers"][31], "c": variables["alpha"]})
+            left = [run["audio"][i], kept, bank["delay"][i]]
+            if three:
+                x, y = [bank["state"][place][i] for place in LAGGED]
+                left = self.at_z(left, ours["sections"], x, y, self.rust.evaluate("unit(a)", {"a": z}))
+            left[1] = left[1] + [self.rust.evaluate(PEAK, {"a": each["numbers"][30], "b": left[0]}), z]
             self.same("tick of " + what, [tick[field] for field in TICK_FIELDS], left)
             self.judged("the tick of " + what, code, ours["active"], tick[TICK_COUNT], left)
 
@@ -350,17 +393,35 @@ class Comparison:
             self.same("default state, " + field, [p[field] for p in ours["points"]], [p[field] for p in theirs["points"]])
 
     def tables(self):
-        """The table of some designs, and `section` of each of their points."""
+        """The table of some designs, and `section` of each of their points, with two axes and with three."""
         for number in range(len(SKIPPED)):
-            ours, theirs = design(number)
-            table_of, made = self.definitions.value(TABLE)(ours), self.rust.evaluate("Table::of(&design)", {"design": theirs})
-            for field in ("active", "sections", "gain"):
-                self.same("design %d, table's %s" % (number, field), table_of[field], made[field])
-            for place in range(8):
-                given = {"design": theirs, "point": place, "x": Tree("x"), "y": Tree("y")}
-                self.same("design %d, section %d" % (number, place),
-                          self.definitions.value(DESIGN_SECTION)(ours, place, Tree("x"), Tree("y")),
-                          self.rust.evaluate("design.section(point, x, y).values()", given))
+            for three in (False, True):
+                what = "design %d, three axes %s, " % (number, three)
+                ours, faces = design(number, three)
+                made = self.made(faces) if three else {**self.rust.evaluate("Table::of(&design)", {"design": faces[0]}), "three": False}
+                table_of, numbers = self.definitions.value(TABLE)(ours), flat(made["sections"])
+                self.same(what + "table's sections", table_of["sections"], numbers + [literal(0)] * (2 * FACE - len(numbers)))
+                for field in ("active", "three", "gain"):
+                    self.same(what + "table's " + field, table_of[field], made[field])
+                for place in range(8):
+                    value = self.definitions.value(DESIGN_SECTION)(ours, place, Tree("x"), Tree("y"), Tree("z"))
+                    self.same(what + "section %d" % place, value, self.section(faces, place, three))
+
+    def made(self, faces):
+        """The table of eight states: of each face the Rust's terms of every point that is no bypass in both."""
+        def of(text, face, place):
+            return self.rust.evaluate(text, {"design": face, "point": place})
+        kept = [place for place in range(8) if not all(of("design.is_bypassed(point)", face, place) for face in faces)]
+        numbers = [[term for place in kept for term in zip(*of("design.bilinear(point)", face, place))] for face in faces]
+        padded = [[flat(face), [literal(0)] * (FACE - len(flat(face)))] for face in numbers]
+        return {"sections": padded, "active": len(kept), "three": True, "gain": self.rust.evaluate("design.gain()", {"design": faces[0]})}
+
+    def section(self, faces, place, three):
+        """`section` of the Rust's: of the near face, or between both at a z that is clamped as its x."""
+        given = {"point": place, "x": Tree("x"), "y": Tree("y")}
+        near, far = [self.rust.evaluate("design.section(point, x, y).values()", {"design": face, **given}) for face in faces]
+        z = self.rust.evaluate("z.clamp(0.0, 1.0)", {"z": Tree("z")})
+        return [self.rust.evaluate(BETWEEN, {"a": a, "b": b, "c": z}) for a, b in zip(near, far)] if three else near
 
 
 def main():

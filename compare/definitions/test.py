@@ -26,6 +26,13 @@ SLIPS = (
     ("the pitch before the lag judged", "run/specs/Run.antt", r"overCount code table \(record \{ 0 = after", "overCount code table (record { 0 = at"),
     ("the peak of the sound before mix and level", "run/specs/Run.antt", r"peakOf \(rec ‼ PEAK\) out", "peakOf (rec ‼ PEAK) (t .out)"),
     ("two settings' places swapped", "filter/specs/Voice.antt", r"LEVEL = 6", "LEVEL = 5"),
+    ("the faces' difference the other way round", "points/specs/Points.antt", r"b ⊖ a", "a ⊖ b"),
+    ("the near face for the far one", "poles/specs/Poles.antt", r"farFace \+ at", "at"),
+    ("z as it glides, not held", "poles/specs/Poles.antt", r"unitOr0 \(d \.z\)", "(d .z)"),
+    ("character for z", "extended/specs/Extended.antt", r"z = params ‼ «MORPH_Z»", "z = params ‼ CHARACTER"),
+    ("a NaN z kept", "filter/specs/Voice.antt", r"morphOf \(p \.«morph_z»\)", "unitOrNan (p .«morph_z»)"),
+    ("a bypass of the near face alone skipped", "pole_zero/specs/PoleZero.antt", r"&& \(not \(d \.three\).*\)", ""),
+    ("a far face of two axes", "pole_zero/specs/PoleZero.antt", r"cond \(design \.three\) (\(patch .*\)) s", r"\1"),
 )
 
 

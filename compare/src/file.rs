@@ -4,11 +4,11 @@ use crate::numbers::{answers, canonical, refused, runs, sums};
 use crate::parked::{self, Restored};
 use crate::replay::Replayed;
 use crate::words::{quoted, Lines, Words, Wrong};
-use sentivolus::{Setup, Table};
+use sentivolus::{Setup, Table, FACE};
 
-/// The requests in force in the files that this replays, by the last one's number: a record has its peak, and a bank is parked in edition one, with two
-/// axes and no chord, whose offsets are then these. C-16 changes no file.
-const STAGES: [&str; 2] = ["15", "16"];
+/// The requests in force in the files that this replays, by the last one's number: a table has two or three axes and two faces, voices and slots have
+/// their z, and a bank is parked in edition one, with no chord, whose offsets are then these.
+const STAGES: [&str; 1] = ["17"];
 const OFFSETS: &str = "00000000*8";
 
 /// A list of more runs is answered by its sums.
@@ -61,8 +61,8 @@ fn listed(letter: &str, long: &str, words: &[u32]) -> String {
 fn image(b: &Restored) -> String {
     let (t, [targets, records, delay]) = (&b.setup.table, &b.lists);
     let numbers = |letter: &str, list: &[f32]| listed(letter, &format!("{letter}h"), &answers(list));
-    format!("i {} {} {} {:08x} 2 0\n{}c {OFFSETS}\n{}{}{}", parked::setup_text(&b.setup), b.cursor, t.active, canonical(t.gain),
-        numbers("n", &t.sections), numbers("t", targets), numbers("r", records), numbers("d", delay))
+    format!("i {} {} {} {:08x} {} 0\n{}c {OFFSETS}\n{}{}{}", parked::setup_text(&b.setup), b.cursor, t.active, canonical(t.gain),
+        if t.three_axes { 3 } else { 2 }, numbers("n", &t.sections), numbers("t", targets), numbers("r", records), numbers("d", delay))
 }
 
 /// The rest of an `image` line and the five lines after it.
@@ -78,13 +78,13 @@ fn read_image(w: &mut Words, lines: &mut Lines, out: &mut Replayed) -> Result<Re
     };
     let cursor = w.whole()?;
     (setup.table.active, setup.table.gain) = (w.u32()?, w.float()?);
-    w.one_of("two axes", &["2"])?;
+    setup.table.three_axes = w.one_of("2 or 3 axes", &["2", "3"])? == "3";
     w.one_of("no chord", &["0"])?;
     w.end()?;
     let mut line = |letter: &str| out.take(lines, &format!("the image's line {letter}"), letter);
     let mut w = line("n")?;
     let sections = w.list()?;
-    setup.table.sections = sections.try_into().map_err(|s: Vec<f32>| w.wrong("160 numbers", &s.len().to_string()))?;
+    setup.table.sections = sections.try_into().map_err(|s: Vec<f32>| w.wrong(&format!("{} numbers", 2 * FACE), &s.len().to_string()))?;
     let mut w = line("c")?;
     w.one_of(OFFSETS, &[OFFSETS])?;
     w.end()?;
@@ -105,7 +105,7 @@ pub fn replay(text: &str) -> Result<Replayed, Wrong> {
         out.copy(w.line);
         if w.line.is_empty() || w.line.starts_with('#') { continue; }
         match w.name() {
-            "stage" => { w.one_of("stage 15 or 16", &STAGES)?; w.end()?; }
+            "stage" => { w.one_of("stage 17", &STAGES)?; w.end()?; }
             "case" => case = Case::new(),
             "image" => case.bank = read_image(&mut w, &mut lines, &mut out)?,
             "file" => case.file = w.bits_list()?.into_iter().flat_map(u32::to_le_bytes).collect(),

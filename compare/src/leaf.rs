@@ -3,12 +3,12 @@
 use crate::numbers::{answers, canonical, number, runs};
 use crate::replay::Replayed;
 use crate::words::{Lines, Words, Wrong};
-use sentivolus::{Design, VoiceParams};
+use sentivolus::{Design, VoiceParams, FACE};
 
 /// Reads a leaf's inputs and gives its answer.
 type Leaf = fn(&mut Words) -> Result<String, Wrong>;
 
-const LEAVES: [(&str, Leaf); 20] = [
+const LEAVES: [(&str, Leaf); 22] = [
     ("max", |w| w.floats().map(|[a, b]| text(&[sentivolus::max(a, b)]))),
     ("min", |w| w.floats().map(|[a, b]| text(&[sentivolus::min(a, b)]))),
     ("exp2", |w| w.float().map(|a| text(&[sentivolus::exp2(a)]))),
@@ -26,8 +26,10 @@ const LEAVES: [(&str, Leaf); 20] = [
     ("svf", |w| w.floats().map(|[a, b, c, d, e]| text(&sentivolus::svf(a, b, c, d, e)))),
     ("targets_of", |w| w.floats().map(|p| text(&sentivolus::targets_of(&VoiceParams::from_array(p))))),
     ("point", |w| point(w).map(|(kind, [frequency, q, a, b])| text(&sentivolus::point(kind, frequency, q, a, b)))),
-    ("table", |w| design(w).map(|d| table(&d))),
-    ("section", section),
+    ("table", |w| design(w, false).map(|d| table(&d))),
+    ("table8", |w| design(w, true).map(|d| table(&d))),
+    ("section", |w| section(w, false)),
+    ("section8", |w| section(w, true)),
     ("read", read),
 ];
 
@@ -44,9 +46,11 @@ fn point(w: &mut Words) -> Result<(u32, [f32; 4]), Wrong> {
     Ok((kind, [frequency, q, a, b]))
 }
 
-fn design(w: &mut Words) -> Result<Design, Wrong> {
-    let mut d = Design { kinds: [0; 32], numbers: [0.0; 128], gain_db: w.float()? };
-    for (kind, numbers) in d.kinds.iter_mut().zip(d.numbers.chunks_exact_mut(4)) {
+/// A gain, and the points of four states or, with three axes, of eight.
+fn design(w: &mut Words, three_axes: bool) -> Result<Design, Wrong> {
+    let mut d = Design { three_axes, gain_db: w.float()?, ..Design::default() };
+    let points = if three_axes { 64 } else { 32 };
+    for (kind, numbers) in d.kinds.iter_mut().zip(d.numbers.chunks_exact_mut(4)).take(points) {
         let (k, n) = point(w)?;
         *kind = k;
         numbers.copy_from_slice(&n);
@@ -56,12 +60,13 @@ fn design(w: &mut Words) -> Result<Design, Wrong> {
 
 fn table(d: &Design) -> String {
     let t = sentivolus::table(d);
-    format!(" {} {:08x}{}", t.active, canonical(t.gain), runs(&answers(&t.sections)))
+    let sections = if t.three_axes { &t.sections[..] } else { &t.sections[..FACE] };
+    format!(" {} {:08x}{}", t.active, canonical(t.gain), runs(&answers(sections)))
 }
 
-fn section(w: &mut Words) -> Result<String, Wrong> {
-    let (point, [x, y]) = (w.whole()?, w.floats()?);
-    Ok(match sentivolus::section(&design(w)?, point, x, y) {
+fn section(w: &mut Words, three_axes: bool) -> Result<String, Wrong> {
+    let (point, [x, y, z]) = (w.whole()?, w.floats()?);
+    Ok(match sentivolus::section(&design(w, three_axes)?, point, x, y, z) {
         Ok(v) => text(&v),
         Err(r) => format!(" refused {}", number(r)),
     })

@@ -22,7 +22,11 @@ pub fn park(setup: &Setup, cursor: usize, [targets, records, delay]: [&[f32]; 3]
     let mut file = vec![BYTE; length];
     let given = sentivolus::park(setup, cursor, targets, records, delay, &mut file);
     let asked = sentivolus::park_len(setup);
-    let measured = match given { Ok(_) => asked == length, Err(Refusal::Store) => asked > 0, Err(_) => asked == 0 };
+    let measured = match given {
+        Ok(_) | Err(Refusal::Unparkable) => asked == length,
+        Err(Refusal::Store) => asked > 0,
+        Err(_) => asked == 0,
+    };
     let wrong = said(&[
         (given.is_err() && file.iter().any(|&b| b != BYTE), "the file is changed"),
         (!measured, "park_len answers otherwise"),
@@ -44,7 +48,10 @@ pub fn restore(file: &[u8], lengths: [usize; 3]) -> (Result<Restored, Refusal>, 
 
 /// Whether a file's setup was read as a restore read it, which also measures the lists.
 fn read_alike(alone: Result<(Setup, usize), Refusal>, restored: Result<(Setup, usize), Refusal>) -> bool {
-    let words = |(s, cursor): (Setup, usize)| (setup_text(&s), cursor, s.table.active, canonical(s.table.gain), answers(&s.table.sections));
+    let words = |(s, cursor): (Setup, usize)| {
+        let t = s.table;
+        (setup_text(&s), cursor, t.active, t.three_axes, canonical(t.gain), answers(&t.sections))
+    };
     match (alone, restored) {
         (Ok(_), Err(refusal)) => refusal == Refusal::Store,
         (alone, restored) => alone.map(words) == restored.map(words),

@@ -4,7 +4,7 @@ use crate::numbers::{answers, canonical, refused, runs, said, sums};
 use crate::parked;
 use crate::replay::Replayed;
 use crate::words::{quoted, Lines, Words, Wrong};
-use sentivolus::{Refusal, Scratch, Setup, Table, VoiceParams};
+use sentivolus::{Refusal, Scratch, Setup, Table, VoiceParams, FACE, TARGETS};
 
 /// What each of a block's counts holds before, and each number of an audition's scratch.
 const BEFORE: u32 = 7;
@@ -90,7 +90,7 @@ impl Bank {
         w.end()?;
         let mut l = self.lent();
         let a = sentivolus::set(&self.setup, self.cursor, &mut l.targets, voice, &p);
-        let written: Vec<f32> = l.targets.iter().skip(voice.saturating_mul(10)).take(10).copied().collect();
+        let written: Vec<f32> = l.targets.iter().skip(voice.saturating_mul(TARGETS)).take(TARGETS).copied().collect();
         self.back(l);
         Ok(if a.is_ok() { format!("{}t{}\n", kept(a), runs(&answers(&written))) } else { kept(a) })
     }
@@ -198,10 +198,10 @@ impl Bank {
         Ok(())
     }
 
-    fn table(&mut self, w: &mut Words) -> Result<(), Wrong> {
-        let mut t = Table { active: w.u32()?, gain: w.float()?, sections: [0.0; 160] };
-        let numbers = w.list()?;
-        let part = t.sections.get_mut(..numbers.len()).ok_or_else(|| w.wrong("at most 160 numbers", &numbers.len().to_string()))?;
+    fn table(&mut self, w: &mut Words, three_axes: bool) -> Result<(), Wrong> {
+        let mut t = Table { active: w.u32()?, gain: w.float()?, three_axes, ..Table::default() };
+        let (numbers, most) = (w.list()?, if three_axes { 2 * FACE } else { FACE });
+        let part = t.sections[..most].get_mut(..numbers.len()).ok_or_else(|| w.wrong(&format!("at most {most} numbers"), &numbers.len().to_string()))?;
         part.copy_from_slice(&numbers);
         self.setup.table = t;
         Ok(())
@@ -254,7 +254,7 @@ pub fn replay(text: &str) -> Result<Replayed, Wrong> {
         if w.line.starts_with('#') { continue; }
         match w.name() {
             "scenario" => bank = Bank::new(),
-            "table" => bank.table(&mut w)?,
+            name @ ("table" | "table3") => bank.table(&mut w, name == "table3")?,
             "poke" => bank.poke(&mut w)?,
             "setup" => { bank.take_setup(&mut w)?; w.end()?; }
             "lend" => { bank.lend = Some(lengths(&mut w)?); w.end()?; }

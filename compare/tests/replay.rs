@@ -4,13 +4,13 @@ mod common;
 
 use common::{compare, stored, written, Ended};
 
-const OPEN: &str = "open 2 45fa0000 43dc0000 1 1 0 10 31 1024\n";
+const OPEN: &str = "open 2 45fa0000 43dc0000 1 1 0 11 32 1024\n";
 
 /// The same bank opened and parked, with its answers.
-const PARKED: &str = "open 2 45fa0000 43dc0000 1 1 0 10 31 1024\n= ok 0\npark 6656\n= ok\nh 00000680 35a9d4a8\n";
+const PARKED: &str = "open 2 45fa0000 43dc0000 1 1 0 11 32 1024\n= ok 0\npark 6656\n= ok\nh 00000680 35a9d4a8\n";
 
 /// A file restored, and what it answers.
-const RESTORE: &str = "restore 10 31 1024\n";
+const RESTORE: &str = "restore 11 32 1024\n";
 const RESTORED: &str = "= ok 0\ns 2 45fa0000 43dc0000 1 1 0 0 3f800000\n";
 
 /// A frame that is over the pitch ceiling there, and what it answers.
@@ -18,46 +18,48 @@ const BLOCK: &str = "block 1 0\np 42700000\nx\ny\na 00000000\n";
 const ANSWER: &str = "= ok 0 1\no 00000000\nc 1\n";
 
 /// A comb opened, with its answer; a frame of it auditioned, what that answers, and the scratch afterwards.
-const COMB: &str = "open 9 45fa0000 43dc0000 1 1 0 10 31 1024\n= ok 0\n";
+const COMB: &str = "open 9 45fa0000 43dc0000 1 1 0 11 32 1024\n= ok 0\n";
 const AUDITION: &str = "audition 1 0\np 43480000\nx\ny\na 3f800000\n";
 const HEARD: &str = "= ok 1 1\no 3f66e979\nc 2\n";
-const COPY: &str = "t 3dcccccd 00000000 3f800000 3eaaaaab 00000000 3f800000*2 00000000*3\n\
-    r 3dcccccd 00000000 3f800000 3eaaaaab 00000000 3f800000*2 00000000*23 3f66e979\nd 3f800000 00000000*1023\n";
+const COPY: &str = "t 3dcccccd 00000000 3f800000 3eaaaaab 00000000 3f800000*2 00000000*4\n\
+    r 3dcccccd 00000000 3f800000 3eaaaaab 00000000 3f800000*2 00000000*23 3f66e979 00000000\nd 3f800000 00000000*1023\n";
 
 /// Lines after a scenario's first line, and what is said about them.
-const SCENARIOS: [(&str, &str); 59] = [
+const SCENARIOS: [(&str, &str); 62] = [
     ("nonsense", "line 2: expected a call, a preparation, an answer or a comment, found \"nonsense\""),
     ("a 3f800000", "line 2: expected a call, a preparation, an answer or a comment, found \"a\""),
     (" dump", "line 2: expected a call, a preparation, an answer or a comment, found \"\""),
     ("dump\r", "line 2: expected a call, a preparation, an answer or a comment, found \"dump\\r\""),
     ("dump 1", "line 2: expected the line's end, found \"1\""),
     ("open", "line 2: expected a whole number that fits 32 bits, found the line's end"),
-    ("open 4294967298 45fa0000 43dc0000 1 1 0 10 31 1024", "line 2: expected a whole number that fits 32 bits, found \"4294967298\""),
-    ("open -1 45fa0000 43dc0000 1 1 0 10 31 1024", "line 2: expected a whole number that fits 32 bits, found \"-1\""),
-    ("open 2 45fa000 43dc0000 1 1 0 10 31 1024", "line 2: expected eight lower-case hexadecimal digits, found \"45fa000\""),
-    ("open 2 45fa00000 43dc0000 1 1 0 10 31 1024", "line 2: expected eight lower-case hexadecimal digits, found \"45fa00000\""),
-    ("open 2 45FA0000 43dc0000 1 1 0 10 31 1024", "line 2: expected eight lower-case hexadecimal digits, found \"45FA0000\""),
-    ("open 2 45fa0000 +3dc0000 1 1 0 10 31 1024", "line 2: expected eight lower-case hexadecimal digits, found \"+3dc0000\""),
-    ("open 2 45fa0000  43dc0000 1 1 0 10 31 1024", "line 2: expected eight lower-case hexadecimal digits, found \"\""),
-    ("open 2 45fa0000 43dc0000 +1 1 0 10 31 1024", "line 2: expected a whole number below 2^64, found \"+1\""),
-    ("open 2 45fa0000 43dc0000 1 18446744073709551616 0 10 31 1024", "line 2: expected a whole number below 2^64, found \"18446744073709551616\""),
-    ("open 2 45fa0000 43dc0000 1 1 2 10 31 1024", "line 2: expected 0 or 1, found \"2\""),
-    ("open 2 45fa0000 43dc0000 1 1 0 10 31 16777217", "line 2: expected a whole number, at most 16777216, found \"16777217\""),
-    ("open 2 45fa0000 43dc0000 1 1 0 10 31 1024 0", "line 2: expected the line's end, found \"0\""),
+    ("open 4294967298 45fa0000 43dc0000 1 1 0 11 32 1024", "line 2: expected a whole number that fits 32 bits, found \"4294967298\""),
+    ("open -1 45fa0000 43dc0000 1 1 0 11 32 1024", "line 2: expected a whole number that fits 32 bits, found \"-1\""),
+    ("open 2 45fa000 43dc0000 1 1 0 11 32 1024", "line 2: expected eight lower-case hexadecimal digits, found \"45fa000\""),
+    ("open 2 45fa00000 43dc0000 1 1 0 11 32 1024", "line 2: expected eight lower-case hexadecimal digits, found \"45fa00000\""),
+    ("open 2 45FA0000 43dc0000 1 1 0 11 32 1024", "line 2: expected eight lower-case hexadecimal digits, found \"45FA0000\""),
+    ("open 2 45fa0000 +3dc0000 1 1 0 11 32 1024", "line 2: expected eight lower-case hexadecimal digits, found \"+3dc0000\""),
+    ("open 2 45fa0000  43dc0000 1 1 0 11 32 1024", "line 2: expected eight lower-case hexadecimal digits, found \"\""),
+    ("open 2 45fa0000 43dc0000 +1 1 0 11 32 1024", "line 2: expected a whole number below 2^64, found \"+1\""),
+    ("open 2 45fa0000 43dc0000 1 18446744073709551616 0 11 32 1024", "line 2: expected a whole number below 2^64, found \"18446744073709551616\""),
+    ("open 2 45fa0000 43dc0000 1 1 2 11 32 1024", "line 2: expected 0 or 1, found \"2\""),
+    ("open 2 45fa0000 43dc0000 1 1 0 11 32 16777217", "line 2: expected a whole number, at most 16777216, found \"16777217\""),
+    ("open 2 45fa0000 43dc0000 1 1 0 11 32 1024 0", "line 2: expected the line's end, found \"0\""),
     ("setup 2 45fa0000 43dc0000 1 1", "line 2: expected 0 or 1, found the line's end"),
     ("setup 2 45fa0000 43dc0000 1 1 0 ", "line 2: expected the line's end, found \"\""),
-    ("lend 10 18446744073709551615 0", "line 2: expected a whole number, at most 16777216, found \"18446744073709551615\""),
+    ("lend 11 18446744073709551615 0", "line 2: expected a whole number, at most 16777216, found \"18446744073709551615\""),
     ("counts", "line 2: expected a whole number, at most 16777216, found the line's end"),
     ("counts -1", "line 2: expected a whole number, at most 16777216, found \"-1\""),
     ("counts 16777217", "line 2: expected a whole number, at most 16777216, found \"16777217\""),
     ("counts 1 1", "line 2: expected the line's end, found \"1\""),
     ("scratch", "line 2: expected a whole number, at most 16777216, found the line's end"),
-    ("scratch 10 31", "line 2: expected a whole number, at most 16777216, found the line's end"),
-    ("scratch 10 31 16777217", "line 2: expected a whole number, at most 16777216, found \"16777217\""),
-    ("scratch 10 31 1024 0", "line 2: expected the line's end, found \"0\""),
+    ("scratch 11 32", "line 2: expected a whole number, at most 16777216, found the line's end"),
+    ("scratch 11 32 16777217", "line 2: expected a whole number, at most 16777216, found \"16777217\""),
+    ("scratch 11 32 1024 0", "line 2: expected the line's end, found \"0\""),
     ("cursor 18446744073709551616", "line 2: expected a whole number below 2^64, found \"18446744073709551616\""),
     ("table 4294967296 3f800000", "line 2: expected a whole number that fits 32 bits, found \"4294967296\""),
     ("table 0 3f800000 00000000*161", "line 2: expected at most 160 numbers, found 161"),
+    ("table3 0 3f800000 00000000*321", "line 2: expected at most 320 numbers, found 321"),
+    ("table8 0 3f800000", "line 2: expected a call, a preparation, an answer or a comment, found \"table8\""),
     ("poke x 0 3f800000", "line 2: expected t, r or d, found \"x\""),
     ("poke t 0 3f800000", "line 2: expected a list of at least 1 numbers, found one of 0"),
     ("poke t 18446744073709551615 3f800000*2", "line 2: expected a list of at least 18446744073709551615 numbers, found one of 0"),
@@ -66,6 +68,8 @@ const SCENARIOS: [(&str, &str); 59] = [
     ("poke t 0 00000000*16777216 3f800000", "line 2: expected at most 16777216 numbers in a list, found more"),
     ("poke t 0 3f80000*2", "line 2: expected eight lower-case hexadecimal digits, found \"3f80000*2\""),
     ("set 0 00000000", "line 2: expected eight lower-case hexadecimal digits, found the line's end"),
+    ("set 0 00000000 00000000 00000000 00000000 00000000 00000000 00000000 00000000 00000000",
+        "line 2: expected eight lower-case hexadecimal digits, found the line's end"),
     ("block 1 0 1", "line 2: expected the line's end, found \"1\""),
     ("block 1 0\np 3f800000\nx", "line 5: expected the block's line y, found the file's end"),
     ("block 1 0\np 3f800000\ny", "line 4: expected the block's line x, found \"y\""),
@@ -78,8 +82,8 @@ const SCENARIOS: [(&str, &str); 59] = [
     ("park", "line 2: expected a whole number, at most 16777216, found the line's end"),
     ("park 16777217", "line 2: expected a whole number, at most 16777216, found \"16777217\""),
     ("park 6656 2", "line 2: expected the line's end, found \"2\""),
-    ("restore 10 31", "line 2: expected a whole number, at most 16777216, found the line's end"),
-    ("restore 10 31 1024 1", "line 2: expected the line's end, found \"1\""),
+    ("restore 11 32", "line 2: expected a whole number, at most 16777216, found the line's end"),
+    ("restore 11 32 1024 1", "line 2: expected the line's end, found \"1\""),
     ("swap 0 0", "line 2: expected one of the file's 0 blocks, from 0, found \"0\""),
     ("byte 0 0", "line 2: expected one of the file's 0 bytes, from 0, found \"0\""),
     ("cut -1", "line 2: expected a whole number below 2^64, found \"-1\""),
@@ -100,7 +104,7 @@ const EDITS: [(&str, &str); 9] = [
     ("cut 6655\nmend 12", "line 7: expected one of the file's 12 blocks, from 0, found \"12\""),
 ];
 
-const LEAVES: [(&str, &str); 10] = [
+const LEAVES: [(&str, &str); 13] = [
     ("sinh 3f800000 = 3f800000", "line 2: expected a leaf's name, found \"sinh\""),
     ("exp2 = 3f800000", "line 2: expected eight lower-case hexadecimal digits, found \"=\""),
     ("exp2 3f8 = 3f800000", "line 2: expected eight lower-case hexadecimal digits, found \"3f8\""),
@@ -109,21 +113,24 @@ const LEAVES: [(&str, &str); 10] = [
     ("max 3f800000", "line 2: expected eight lower-case hexadecimal digits, found the line's end"),
     ("point 8 3f800000 3f800000 =", "line 2: expected a whole number, at most 7, found \"8\""),
     ("point 6 3f800000 3f800000 =", "line 2: expected eight lower-case hexadecimal digits, found \"=\""),
-    ("section 0 3f800000 3f800000 00000000 =", "line 2: expected a whole number, at most 7, found \"=\""),
+    ("section 0 3f800000 3f800000 =", "line 2: expected eight lower-case hexadecimal digits, found \"=\""),
+    ("section 0 3f800000 3f800000 3f800000 00000000 =", "line 2: expected a whole number, at most 7, found \"=\""),
+    ("section8 0 3f800000 3f800000 3f800000 00000000 8", "line 2: expected a whole number, at most 7, found \"8\""),
+    ("table8 00000000", "line 2: expected a whole number, at most 7, found the line's end"),
     ("read 16777217 1024 0 0 3f800000 =", "line 2: expected a whole number, at most 16777216, found \"16777217\""),
 ];
 
 const IMAGE: &str = "image 9 45fa0000 43dc0000 1 1 0 0 0 3f800000 2 0";
-const LISTS: &str = "n 00000000*160\nc 00000000*8\nt 3f000000*10\nr 00000000*31\nd 00000000*1024\n";
+const LISTS: &str = "n 00000000*320\nc 00000000*8\nt 3f000000*10 00000000\nr 00000000*32\nd 00000000*1024\n";
 
 /// Lines of a case on parked files, after its first line.
 const CASES: [(&str, &str); 20] = [
     ("nonsense", "line 2: expected a line of a case, an answer or a comment, found \"nonsense\""),
-    ("stage 14", "line 2: expected stage 15 or 16, found \"14\""),
-    ("stage 17", "line 2: expected stage 15 or 16, found \"17\""),
+    ("stage 16", "line 2: expected stage 17, found \"16\""),
+    ("stage 18", "line 2: expected stage 17, found \"18\""),
     ("image 4294967296", "line 2: expected a whole number that fits 32 bits, found \"4294967296\""),
-    ("image 9 45fa0000 43dc0000 1 1 0 0 0 3f800000", "line 2: expected two axes, found the line's end"),
-    ("image 9 45fa0000 43dc0000 1 1 0 0 0 3f800000 3 0", "line 2: expected two axes, found \"3\""),
+    ("image 9 45fa0000 43dc0000 1 1 0 0 0 3f800000", "line 2: expected 2 or 3 axes, found the line's end"),
+    ("image 9 45fa0000 43dc0000 1 1 0 0 0 3f800000 4 0", "line 2: expected 2 or 3 axes, found \"4\""),
     ("image 9 45fa0000 43dc0000 1 1 0 0 0 3f800000 2 1", "line 2: expected no chord, found \"1\""),
     ("image 9 45fa0000 43dc0000 1 1 2 0 0 3f800000 2 0", "line 2: expected 0 or 1, found \"2\""),
     (IMAGE, "line 3: expected the image's line n, found the file's end"),
@@ -135,18 +142,18 @@ const CASES: [(&str, &str); 20] = [
     ("park 2 6656", "line 2: expected edition 1, found \"2\""),
     ("park 1 16777217", "line 2: expected a whole number, at most 16777216, found \"16777217\""),
     ("park 1 6656 1", "line 2: expected the line's end, found \"1\""),
-    ("restore 10 31", "line 2: expected a whole number, at most 16777216, found the line's end"),
-    ("restore 10 31 1024 1", "line 2: expected the line's end, found \"1\""),
+    ("restore 11 32", "line 2: expected a whole number, at most 16777216, found the line's end"),
+    ("restore 11 32 1024 1", "line 2: expected the line's end, found \"1\""),
     ("rewrite 6656", "line 2: expected a line of a case, an answer or a comment, found \"rewrite\""),
 ];
 
 /// The same after an image's first line.
 const IMAGES: [(&str, &str); 5] = [
-    ("n 00000000*159", "line 3: expected 160 numbers, found 159"),
+    ("n 00000000*160", "line 3: expected 320 numbers, found 160"),
     ("t 00000000", "line 3: expected the image's line n, found \"t\""),
-    ("n 00000000*160\nc 00000000*7 3f800000", "line 4: expected 00000000*8, found \"00000000*7\""),
-    ("n 00000000*160\nc 00000000*8\nt 0", "line 5: expected eight lower-case hexadecimal digits, found \"0\""),
-    ("n 00000000*160\nc 00000000*8\nt\nr\npark 1 0", "line 7: expected the image's line d, found \"park\""),
+    ("n 00000000*320\nc 00000000*7 3f800000", "line 4: expected 00000000*8, found \"00000000*7\""),
+    ("n 00000000*320\nc 00000000*8\nt 0", "line 5: expected eight lower-case hexadecimal digits, found \"0\""),
+    ("n 00000000*320\nc 00000000*8\nt\nr\npark 1 0", "line 7: expected the image's line d, found \"park\""),
 ];
 
 fn malformed(e: &Ended, message: &str) {
@@ -171,12 +178,12 @@ fn malformed_lines_are_named() {
 /// One byte changed at every place of a file, and the file cut there: it is read or refused.
 #[test]
 fn no_damage_ends_a_run() {
-    let table = "table 1 3f800000 3f000000*20\npoke r 30 3f800000\n";
-    let file = format!("{OPEN}{table}lend 9 31 1024\nset 0{}\ncounts 1\n{BLOCK}dump\n", " 3f800000".repeat(9));
+    let table = "table 1 3f800000 3f000000*20\ntable3 1 3f800000 3f000000*180\npoke r 30 3f800000\n";
+    let file = format!("{OPEN}{table}lend 10 32 1024\nset 0{}\ncounts 1\n{BLOCK}dump\n", " 3f800000".repeat(10));
     undamaged("run", &file);
-    undamaged("run", &format!("{OPEN}lend 10 31 1024\ncounts 1\nscratch 10 31 1024\n{AUDITION}"));
+    undamaged("run", &format!("{OPEN}lend 11 32 1024\ncounts 1\nscratch 11 32 1024\n{AUDITION}"));
     undamaged("run", &format!("{OPEN}park 6656\nswap 0 12\ntwice 3\ndrop 3\nbyte 6655 7\nword 12 127 00000000\nmend 12\n{RESTORE}cut 512\n"));
-    undamaged("file", &format!("stage 15\ncase 0\n{IMAGE}\n{LISTS}park 1 6656\ntake\nbytes 6144\n{RESTORE}file 00000000*128\n"));
+    undamaged("file", &format!("stage 17\ncase 0\n{IMAGE}\n{LISTS}park 1 6656\ntake\nbytes 6144\n{RESTORE}file 00000000*128\n"));
 }
 
 fn undamaged(kind: &str, file: &str) {
@@ -196,9 +203,9 @@ fn undamaged(kind: &str, file: &str) {
 /// A set that is accepted at a lent length writes into the list as far as that goes.
 #[test]
 fn lent_lists_are_parts() {
-    let e = compare(&["run"], format!("{}lend 10 0 0\nset 0{}\ndump\n", OPEN.replace(" 10 31 1024", " 3 0 0"), " 00000000".repeat(9)).as_bytes());
+    let e = compare(&["run"], format!("{}lend 11 0 0\nset 0{}\ndump\n", OPEN.replace(" 11 32 1024", " 3 0 0"), " 00000000".repeat(10)).as_bytes());
     assert_eq!((e.status, e.err.as_str()), (Some(0), ""));
-    assert!(e.out.contains("= refused 6\nlend 10 0 0\n") && e.out.ends_with("\ndump\nt 00000000*2 3f800000\nr\nd\n"), "{}", e.out);
+    assert!(e.out.contains("= refused 6\nlend 11 0 0\n") && e.out.ends_with("\ndump\nt 00000000*2 3f800000\nr\nd\n"), "{}", e.out);
 }
 
 /// A `counts` line is for the next block, whatever stands between, and for no other.
@@ -206,7 +213,7 @@ fn lent_lists_are_parts() {
 fn counts_are_lent_to_the_next_block() {
     let refused = "= refused 10\n";
     for (lines, first) in [("", ANSWER), ("counts 1\n", ANSWER), ("counts 0\n", refused), ("counts 2\n", refused), ("counts 16777216\n", refused),
-        ("counts 0\ncounts 1\n", ANSWER), ("counts 1\ncounts 0\n", refused), ("counts 0\nlend 10 31 1024\nstart 0\ncursor 0\n", refused),
+        ("counts 0\ncounts 1\n", ANSWER), ("counts 1\ncounts 0\n", refused), ("counts 0\nlend 11 32 1024\nstart 0\ncursor 0\n", refused),
         (&format!("counts 0\n{OPEN}"), refused), (&format!("counts 0\nscenario b\n{OPEN}"), ANSWER)] {
         let e = compare(&["run"], format!("{OPEN}{lines}{BLOCK}{BLOCK}").as_bytes());
         assert_eq!((e.status, e.err.as_str()), (Some(0), ""), "{lines}");
@@ -221,14 +228,14 @@ fn scratches_are_lent_to_the_next_audition() {
     let refused = |n: u32| format!("= refused {n}\n");
     let accepted = || format!("{HEARD}{COPY}");
     let block = AUDITION.replace("audition", "block");
-    for (lines, first) in [("", accepted()), ("scratch 10 31 1024\n", accepted()), ("scratch 9 31 1024\n", refused(14)), ("scratch 11 31 1024\n", refused(14)),
-        ("scratch 10 30 1024\n", refused(14)), ("scratch 10 32 1024\n", refused(14)), ("scratch 10 31 1023\n", refused(14)),
-        ("scratch 10 31 1025\n", refused(14)), ("scratch 0 0 0\n", refused(14)), ("scratch 10 31 16777216\n", refused(14)),
-        ("scratch 0 0 0\nscratch 10 31 1024\n", accepted()), ("scratch 10 31 1024\nscratch 0 0 0\n", refused(14)),
-        ("scratch 0 0 0\nlend 10 31 1024\nstart 0\ncursor 0\n", refused(14)), (&format!("scratch 0 0 0\n{block}cursor 0\nstart 0\n"), refused(14)),
+    for (lines, first) in [("", accepted()), ("scratch 11 32 1024\n", accepted()), ("scratch 10 32 1024\n", refused(14)), ("scratch 12 32 1024\n", refused(14)),
+        ("scratch 11 31 1024\n", refused(14)), ("scratch 11 33 1024\n", refused(14)), ("scratch 11 32 1023\n", refused(14)),
+        ("scratch 11 32 1025\n", refused(14)), ("scratch 0 0 0\n", refused(14)), ("scratch 11 32 16777216\n", refused(14)),
+        ("scratch 0 0 0\nscratch 11 32 1024\n", accepted()), ("scratch 11 32 1024\nscratch 0 0 0\n", refused(14)),
+        ("scratch 0 0 0\nlend 11 32 1024\nstart 0\ncursor 0\n", refused(14)), (&format!("scratch 0 0 0\n{block}cursor 0\nstart 0\n"), refused(14)),
         (&format!("scratch 0 0 0\n{COMB}"), refused(14)), (&format!("scratch 0 0 0\nscenario b\n{COMB}"), accepted()),
         ("counts 1\n", accepted()), ("counts 0\n", refused(10)), ("counts 2\nscratch 0 0 0\n", refused(10)), (&format!("counts 0\n{block}"), accepted()),
-        ("scratch 0 0 0\nlend 10 31 1023\n", refused(6)), ("scratch 0 0 0\ncounts 0\nlend 9 31 1024\n", refused(6))] {
+        ("scratch 0 0 0\nlend 11 32 1023\n", refused(6)), ("scratch 0 0 0\ncounts 0\nlend 10 32 1024\n", refused(6))] {
         let e = compare(&["run"], format!("{COMB}{lines}{AUDITION}{AUDITION}{block}").as_bytes());
         assert_eq!((e.status, e.err.as_str()), (Some(0), ""), "{lines}");
         assert!(e.out.ends_with(&format!("{AUDITION}{first}{AUDITION}{HEARD}{COPY}{block}{HEARD}")), "{lines}{}", e.out);
@@ -238,7 +245,7 @@ fn scratches_are_lent_to_the_next_audition() {
 /// The bank's lists and its cursor are after an audition what they were, and the block that is committed then leaves what the scratch held.
 #[test]
 fn an_audition_leaves_the_bank() {
-    let opened = COPY.replace("00000000*23 3f66e979", "00000000*24").replace("d 3f800000 00000000*1023", "d 00000000*1024");
+    let opened = COPY.replace("00000000*23 3f66e979 00000000", "00000000*25").replace("d 3f800000 00000000*1023", "d 00000000*1024");
     let block = AUDITION.replace("audition", "block");
     let text = format!("{COMB}{AUDITION}{HEARD}{COPY}dump\n{opened}{AUDITION}{HEARD}{COPY}{block}{HEARD}dump\n{COPY}");
     let e = compare(&["run"], text.as_bytes());
@@ -283,8 +290,11 @@ fn files_are_edited() {
         ("cut 6657\n", RESTORED.to_string()),
         ("setup 2 7fc00000 43dc0000 1 1 0\npark 6656\n= refused 1\n", RESTORED.to_string()),
         ("park 6655\n= refused 6\n", RESTORED.to_string()),
-        ("lend 10 31 1023\npark 6656\n= refused 6\n", RESTORED.to_string()),
-        ("restore 10 31 1025\n= refused 6\n", RESTORED.to_string()),
+        ("lend 11 32 1023\npark 6656\n= refused 6\n", RESTORED.to_string()),
+        ("restore 11 32 1025\n= refused 6\n", RESTORED.to_string()),
+        ("table3 0 3f800000\npark 6656\n= refused 15\npark 6655\n= refused 6\n", RESTORED.to_string()),
+        ("poke t 10 80000000\npark 6656\n= refused 15\n", RESTORED.to_string()),
+        ("poke r 31 00000001\npark 6656\n= refused 15\n", RESTORED.to_string()),
         ("scenario b\n", refused(13)),
     ] {
         let text = format!("{PARKED}{lines}{RESTORE}{answer}");
@@ -296,11 +306,11 @@ fn files_are_edited() {
 /// A restore gives lists, setup, table and cursor back, and leaves a `lend` line to the next call that is lent the bank's lists.
 #[test]
 fn a_restored_bank_goes_on() {
-    let dump = "dump\nt 3dcccccd 00000000 3f800000 3eaaaaab 00000000 3f800000*2 00000000*3\nr 3dcccccd 00000000 3f800000 3eaaaaab 00000000 3f800000*2 \
-        00000000*24\nd 00000000*1024\n";
-    let spoilt = "setup 5 45fa0000 42c80000 1 1 1\ntable 8 00000000\ncursor 9\npoke t 0 00000000*10\npoke r 0 3f800000*31\npoke d 0 3f800000*1024\n";
+    let dump = "dump\nt 3dcccccd 00000000 3f800000 3eaaaaab 00000000 3f800000*2 00000000*4\nr 3dcccccd 00000000 3f800000 3eaaaaab 00000000 3f800000*2 \
+        00000000*25\nd 00000000*1024\n";
+    let spoilt = "setup 5 45fa0000 42c80000 1 1 1\ntable3 8 00000000\ncursor 9\npoke t 0 3f800000*11\npoke r 0 3f800000*32\npoke d 0 3f800000*1024\n";
     let again = "park 6656\n= ok\nh 00000680 35a9d4a8\n";
-    let text = format!("{PARKED}{spoilt}{RESTORE}{RESTORED}{dump}{again}lend 9 31 1024\n{RESTORE}{RESTORED}start 0\n= refused 6\nstart 0\n= ok 0\n");
+    let text = format!("{PARKED}{spoilt}{RESTORE}{RESTORED}{dump}{again}lend 10 32 1024\n{RESTORE}{RESTORED}start 0\n= refused 6\nstart 0\n= ok 0\n");
     let e = compare(&["run"], text.as_bytes());
     assert_eq!((e.status, e.out, e.err.as_str()), (Some(0), text, ""));
 }
@@ -326,7 +336,7 @@ fn the_repository_s_files_pass() {
 #[test]
 fn differences_are_shown() {
     let start = format!("{OPEN}= ok 0\n");
-    let targets = "t 3dcccccd 00000000 3f800000 3eaaaaab 00000000 3f800000*2 00000000*3";
+    let targets = "t 3dcccccd 00000000 3f800000 3eaaaaab 00000000 3f800000*2 00000000*4";
     let record = " 3dcccccd 00000000 3f800000 3eaaaaab 00000000 3f800000*2 00000000";
     for (text, message) in [
         (format!("{OPEN}= ok 1\n"), "line 2\nfile: = ok 1\nours: = ok 0"),
@@ -342,12 +352,12 @@ fn differences_are_shown() {
         (format!("{COMB}{AUDITION}{HEARD}{}", COPY.replace("d 3f8", "d 3f0")), "line 13\nfile: d 3f000000 00000000*1023\nours: d 3f800000 00000000*1023"),
         (format!("{COMB}{AUDITION}{HEARD}"), &format!("line 11\nfile: (no line)\nours: {targets}")),
         (format!("{COMB}scratch 0 0 0\n{AUDITION}= refused 14\nt\nr\nd\n"), "line 10\nfile: t\nours: (no line)"),
-        (format!("{start}dump\n{targets}\nr{record}*23\nd 00000000*1024\n"), &format!("line 5\nfile: r{record}*23\nours: r{record}*24")),
+        (format!("{start}dump\n{targets}\nr{record}*24\nd 00000000*1024\n"), &format!("line 5\nfile: r{record}*24\nours: r{record}*25")),
     ] {
         let e = check("differences", "run", &text);
         assert_eq!((e.status, e.out.as_str(), e.err), (Some(1), "", format!("FILE: differs at {message}\n")));
     }
-    for (from, to) in [("= refused 12", "= refused 13"), ("nh 3f002161", "nh 3f002160"), ("h 00001600", "h 00001601"), ("t 3dcccccd", "t 3dccccce")] {
+    for (from, to) in [("= refused 12", "= refused 13"), ("nh 3f002201", "nh 3f002200"), ("h 00001600", "h 00001601"), ("t 3dcccccd", "t 3dccccce")] {
         let text = stored("compare/tests/parked.txt");
         let at = text.rfind(&format!("\n{from}")).expect("the answer") + 1;
         let (before, after) = text.split_at(at);
@@ -376,7 +386,7 @@ fn long_lines_are_cut() {
 #[test]
 fn files_without_an_answer_do_not_pass() {
     for (kind, text) in [("run", ""), ("run", "# nothing\n"), ("run", "scenario a\ncursor 5\n"), ("leaf", ""), ("leaf", "# nothing\n\n"),
-        ("file", ""), ("file", "# nothing\nstage 15\n\ncase 0\nfile 00000000\n")] {
+        ("file", ""), ("file", "# nothing\nstage 17\n\ncase 0\nfile 00000000\n")] {
         let e = check("no_answer", kind, text);
         assert_eq!((e.status, e.out.as_str(), e.err.as_str()), (Some(1), "", "FILE: holds no answer, so nothing is compared\n"), "{text:?}");
     }
@@ -385,7 +395,7 @@ fn files_without_an_answer_do_not_pass() {
 #[test]
 fn a_malformed_file_is_no_difference() {
     malformed(&check("malformed", "run", "scenario a\nopen 4294967298\n"), "line 2: expected a whole number that fits 32 bits, found \"4294967298\"");
-    malformed(&check("malformed", "file", "stage 15\ncase 0\npark 1\n"), "line 3: expected a whole number, at most 16777216, found the line's end");
+    malformed(&check("malformed", "file", "stage 17\ncase 0\npark 1\n"), "line 3: expected a whole number, at most 16777216, found the line's end");
     assert_eq!(compare(&["check", "run", "/nowhere/file"], b"").status, Some(2));
 }
 

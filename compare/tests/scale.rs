@@ -19,7 +19,7 @@ fn cases() -> usize { parked().lines().filter(|l| l.starts_with("case ")).count(
 fn script_of(test: &str, [scenarios, leaves, parked]: [&str; 3], ending: &str, run: &str) -> String {
     let answers: String = [("gen", scenarios), ("leafgen", leaves), ("filesgen", parked)].iter()
         .map(|(name, text)| format!("{name}) cat '{}'; {ending} ;;\n", written(test, name, text).display())).collect();
-    let path = written(test, "oracle", &format!("#!/bin/sh\n[ \"$STAGE\" = 16 ] || exit 3\ncase $1 in\n{answers}run) {run} ;;\nesac\n"));
+    let path = written(test, "oracle", &format!("#!/bin/sh\n[ \"$STAGE\" = 17 ] || exit 3\ncase $1 in\n{answers}run) {run} ;;\nesac\n"));
     std::fs::set_permissions(&path, std::fs::Permissions::from_mode(0o755)).expect("the script is a program");
     path.display().to_string()
 }
@@ -111,7 +111,7 @@ fn parked_files_cut_short_fail() {
     fails_with("parked_cut_after_a_question", before_last(&whole, "\n= "), "instead of an answer");
     fails_with("parked_missing", "", "the last line has no newline");
     fails_with("parked_changed", &changed(&whole, "\n= refused 1"), "the parked files differ at line ");
-    fails_with("parked_malformed", &whole.replacen("stage 15", "stage 14", 1), "the parked files cannot be read: line 2: ");
+    fails_with("parked_malformed", &whole.replacen("stage 17", "stage 16", 1), "the parked files cannot be read: line 2: ");
 }
 
 #[test]
@@ -143,7 +143,7 @@ fn a_difference_is_shrunk() {
 /// A `counts` line goes with its block: dropped with it, kept with it, and nothing that stood between is kept for its sake.
 #[test]
 fn counts_shrink_with_their_block() {
-    let (open, block) = ("open 2 45fa0000 43dc0000 1 1 0 10 31 1024\n", "block 1 0\np 42700000\nx\ny\na 00000000\n");
+    let (open, block) = ("open 2 45fa0000 43dc0000 1 1 0 11 32 1024\n", "block 1 0\np 42700000\nx\ny\na 00000000\n");
     let calls = format!("scenario a\n{open}counts 0\nstart 0\n{block}counts 1\ncursor 5\n{block}{block}dump\n");
     for (test, from, to, small) in [
         ("shrunk_count", "c 1", "c 9", format!("{block}= ok 0 1\no 00000000\nc 9\n")),
@@ -159,13 +159,13 @@ fn counts_shrink_with_their_block() {
 /// A `scratch` line goes with its audition, and a `counts` line before it.
 #[test]
 fn scratches_shrink_with_their_audition() {
-    let (open, block) = ("open 2 45fa0000 43dc0000 1 1 0 10 31 1024\n", "block 1 0\np 42700000\nx\ny\na 00000000\n");
+    let (open, block) = ("open 2 45fa0000 43dc0000 1 1 0 11 32 1024\n", "block 1 0\np 42700000\nx\ny\na 00000000\n");
     let audition = block.replace("block", "audition");
-    let (short, right) = (format!("scratch 9 31 1024\nstart 0\n{block}{audition}"), format!("scratch 10 31 1024\ncursor 5\n{audition}"));
+    let (short, right) = (format!("scratch 10 32 1024\nstart 0\n{block}{audition}"), format!("scratch 11 32 1024\ncursor 5\n{audition}"));
     let calls = format!("scenario a\n{open}{short}counts 2\n{right}{audition}{block}dump\n");
     for (test, from, to, small) in [
-        ("shrunk_scratch", "= refused 14", "= refused 13", format!("scratch 9 31 1024\n{audition}= refused 13\n")),
-        ("shrunk_audition", "= refused 10", "= refused 9", format!("counts 2\nscratch 10 31 1024\n{audition}= refused 9\n")),
+        ("shrunk_scratch", "= refused 14", "= refused 13", format!("scratch 10 32 1024\n{audition}= refused 13\n")),
+        ("shrunk_audition", "= refused 10", "= refused 9", format!("counts 2\nscratch 11 32 1024\n{audition}= refused 9\n")),
     ] {
         let spoilt = compare(&["run"], calls.as_bytes()).out.replace(&format!("\n{from}\n"), &format!("\n{to}\n"));
         let answering = format!("'{}' run | sed 's/^{from}$/{to}/'", env!("CARGO_BIN_EXE_compare"));
@@ -177,13 +177,13 @@ fn scratches_shrink_with_their_audition() {
 /// Of a bank that is parked, changed and restored, the lines that the difference needs are left: the file's edits among them.
 #[test]
 fn parked_banks_shrink() {
-    let open = "open 2 45fa0000 43dc0000 1 1 0 10 31 1024\n";
+    let open = "open 2 45fa0000 43dc0000 1 1 0 11 32 1024\n";
     let block = "block 1 0\np 42700000\nx\ny\na 00000000\n";
-    let calls = format!("scenario a\n{open}start 0\npark 6656\n{block}swap 0 3\nword 3 1 0000000d\nmend 3\nrestore 10 31 1024\n{block}dump\n");
+    let calls = format!("scenario a\n{open}start 0\npark 6656\n{block}swap 0 3\nword 3 1 0000000d\nmend 3\nrestore 11 32 1024\n{block}dump\n");
     let spoilt = compare(&["run"], calls.as_bytes()).out.replace("\n= refused 5\n", "\n= refused 4\n");
     let answering = format!("'{}' run | sed 's/^= refused 5$/= refused 4/'", env!("CARGO_BIN_EXE_compare"));
     let oracle = script("shrunk_parked", &spoilt, &leaves(), "exit 0", &answering);
-    let small = "park 6656\n= ok\nh 00000680 35a9d4a8\nswap 0 3\nword 3 1 0000000d\nmend 3\nrestore 10 31 1024\n= refused 4\n";
+    let small = "park 6656\n= ok\nh 00000680 35a9d4a8\nswap 0 3\nword 3 1 0000000d\nmend 3\nrestore 11 32 1024\n= refused 4\n";
     fails(&scale_of(&oracle, 1), &format!("with the Rust's answers:\nscenario a\n{open}= ok 0\n{small}and with ours:\n"));
 }
 

@@ -55,7 +55,7 @@ fn main() -> Result<(), Refusal> {
     let (mut pitch, mut audio) = (vec![0.0; BLOCK * VOICES], vec![0.0; BLOCK * CHANNELS * VOICES]);
     for block in 0..BLOCKS {
         if block == BLOCKS / 2 {
-            let file = bank.park();
+            let file = bank.park()?;
             bank = Bank::restore(&file)?;
             println!("parked after {block} blocks in a file of {} bytes, restored in new lists", file.len());
         }

@@ -86,7 +86,8 @@ impl Bank {
         Ok(rendered)
     }
 
-    /// The bank as the bytes of a file; it stays as it is. [`park`](crate::park) writes them to a lent list.
+    /// The bank as the bytes of a file; it stays as it is. [`park`](crate::park) writes them to a lent list. The one refusal that it meets is
+    /// [`Refusal::Unparkable`].
     ///
     /// ```
     /// use sentivolus::{Bank, Block, Refusal, Setup, Structure};
@@ -94,7 +95,7 @@ impl Bank {
     /// let mut bank = Bank::open(Setup::new(Structure::Comb2, 48000.0, 1, 1))?;
     /// let b = Block { frames: 64, pitch: &[57.0; 64], steering: None };
     /// bank.block(b, &mut [0.5; 64])?;
-    /// let file = bank.park();
+    /// let file = bank.park()?;
     /// let mut restored = Bank::restore(&file)?;
     /// let (mut here, mut there) = ([0.25; 64], [0.25; 64]);
     /// bank.block(b, &mut here)?;
@@ -104,11 +105,10 @@ impl Bank {
     /// # Ok(())
     /// # }
     /// ```
-    pub fn park(&self) -> Vec<u8> {
+    pub fn park(&self) -> Result<Vec<u8>, Refusal> {
         let mut file = vec![0; parking::park_len(&self.setup)];
-        let parked = parking::park(&self.setup, self.cursor, &self.targets, &self.records, &self.delay, &mut file);
-        parked.expect("the setup of an open bank is right and its lists are whole");
-        file
+        parking::park(&self.setup, self.cursor, &self.targets, &self.records, &self.delay, &mut file)?;
+        Ok(file)
     }
 
     /// The bank that a file was parked from, its counts all 0. Refuses what [`parked_setup`](crate::parked_setup) does.
@@ -130,7 +130,7 @@ impl Bank {
         &self.setup
     }
 
-    /// The numbers that its voices glide to, ten a voice.
+    /// The numbers that its voices glide to, [`TARGETS`](crate::TARGETS) a voice.
     pub fn targets(&self) -> &[f32] {
         &self.targets
     }

@@ -1,19 +1,28 @@
 //! The bank's calls on lent lists.
 //!
-//! Layouts, with slot = channel × voices + voice: targets 10 a voice (resonance, drive, drive gain, inverse knee, offset, mix, level, character,
-//! x, y); records [`RECORD`] a slot (ten smoothed numbers in that order, twenty states, the peak); delay [`ring_len`] a slot; pitch, x and y by
-//! frame, then voice; audio by frame, then channel, then voice; counts one a slot.
+//! Layouts, with slot = channel × voices + voice: targets [`TARGETS`] a voice (resonance, drive, drive gain, inverse knee, offset, mix, level,
+//! character, x, y, z); records [`RECORD`] a slot (ten smoothed numbers in that order, twenty states, the peak, the smoothed z); delay [`ring_len`] a
+//! slot; pitch, x and y by frame, then voice; audio by frame, then channel, then voice; counts one a slot.
 
 use crate::floats::ieee;
 use crate::refusal::answer;
 use crate::{ffi, ring_len, Refusal, Table};
 
-/// Numbers a slot in records: ten smoothed, twenty states, the peak.
-pub const RECORD: usize = 31;
+/// Numbers a voice in targets.
+pub const TARGETS: usize = 11;
+
+/// Where a voice's targets have z, the last of them.
+pub const TARGET_Z: usize = 10;
+
+/// Numbers a slot in records: ten smoothed, twenty states, the peak, the smoothed z.
+pub const RECORD: usize = 32;
 
 /// Where a slot's record has its peak: after each frame [`max`](crate::max) of the peak and |sample|, of the sample handed back, after mix and level.
 /// [`start`] clears it to +0, [`set`] leaves it.
 pub const PEAK: usize = 30;
+
+/// Where a slot's record has its smoothed z.
+pub const RECORD_Z: usize = 31;
 
 /// The structures that a bank's filters can have.
 #[derive(Clone, Copy, Debug, PartialEq, Eq, Hash)]
@@ -33,7 +42,7 @@ pub enum Structure {
     CleanLadder = 6,
     /// The transistor ladder, overdriven by character.
     DrivenLadder = 7,
-    /// Up to eight drawn sections, blended by x and y; character slows cutoff, x and y.
+    /// Up to eight drawn sections, blended by x, y and, with three axes, z; character slows cutoff, x and y.
     PoleZero = 8,
     /// A feedback comb with two taps, the second up to two octaves above by character.
     Comb2 = 9,
@@ -65,7 +74,7 @@ pub struct Setup {
 }
 
 impl Setup {
-    /// A setup with reference 440, no clean drive and a pole-zero table that passes its input.
+    /// A setup with reference 440, no clean drive and a pole-zero table of two axes that passes its input.
     pub fn new(structure: Structure, rate: f32, voices: usize, channels: usize) -> Self {
         Setup { code: structure as u32, rate, reference: 440.0, voices, channels, clean: false, table: Table::default() }
     }
@@ -86,7 +95,7 @@ impl Setup {
 
     /// The lengths of targets, records and delay that this setup asks for.
     pub fn lengths(&self) -> Result<[usize; 3], Refusal> {
-        self.slots().map(|slots| [10 * self.voices, RECORD * slots, ring_len(self.rate) * slots])
+        self.slots().map(|slots| [TARGETS * self.voices, RECORD * slots, ring_len(self.rate) * slots])
     }
 }
 
@@ -111,13 +120,15 @@ pub struct VoiceParams {
     pub morph_x: f32,
     /// As `morph_x`.
     pub morph_y: f32,
+    /// As `morph_x`, of a table with three axes; it is not steered, and character does not slow it.
+    pub morph_z: f32,
 }
 
 impl Default for VoiceParams {
     /// The archive's defaults: resonance 0.1, mix and level 1, all else 0.
     fn default() -> Self {
-        let mut numbers = [0.0; 9];
-        // SAFETY: `numbers` has the nine numbers that are written.
+        let mut numbers = [0.0; 10];
+        // SAFETY: `numbers` has the ten numbers that are written.
         ieee(|| unsafe { ffi::sentivolus_defaults(&mut numbers) });
         VoiceParams::from_array(numbers)
     }
@@ -125,9 +136,9 @@ impl Default for VoiceParams {
 
 impl VoiceParams {
     /// The settings in the order of the fields.
-    pub fn from_array(p: [f32; 9]) -> Self {
-        let [resonance, drive, saturation, character, stereo_offset, mix, level, morph_x, morph_y] = p;
-        VoiceParams { resonance, drive, saturation, character, stereo_offset, mix, level, morph_x, morph_y }
+    pub fn from_array(p: [f32; 10]) -> Self {
+        let [resonance, drive, saturation, character, stereo_offset, mix, level, morph_x, morph_y, morph_z] = p;
+        VoiceParams { resonance, drive, saturation, character, stereo_offset, mix, level, morph_x, morph_y, morph_z }
     }
 }
 
@@ -164,7 +175,7 @@ macro_rules! call {
     ($name:ident, $s:expr $(, $rest:expr)*) => {
         ieee(|| unsafe {
             ffi::$name($s.code, $s.rate, $s.reference, $s.voices, $s.channels, $s.clean,
-                $s.table.active, &$s.table.sections, $s.table.gain $(, $rest)*)
+                $s.table.active, $s.table.three_axes, &$s.table.sections, $s.table.gain $(, $rest)*)
         })
     };
 }
@@ -181,7 +192,7 @@ pub fn open(s: &Setup, targets: &mut [f32], records: &mut [f32], delay: &mut [f3
 pub fn set(s: &Setup, cursor: usize, targets: &mut [f32], voice: usize, p: &VoiceParams) -> Result<usize, Refusal> {
     // SAFETY: pointer and length are of one slice.
     answer(call!(sentivolus_set, s, targets.as_mut_ptr(), targets.len(), voice,
-        p.resonance, p.drive, p.saturation, p.character, p.stereo_offset, p.mix, p.level, p.morph_x, p.morph_y))
+        p.resonance, p.drive, p.saturation, p.character, p.stereo_offset, p.mix, p.level, p.morph_x, p.morph_y, p.morph_z))
         .map(|()| cursor)
 }
 

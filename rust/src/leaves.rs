@@ -2,7 +2,7 @@
 
 use crate::ffi;
 use crate::floats::ieee;
-use crate::VoiceParams;
+use crate::{VoiceParams, TARGETS};
 
 /// The greater: of a NaN and a number the number; -0 is below +0, whichever comes first.
 pub fn max(a: f32, b: f32) -> f32 {
@@ -102,12 +102,13 @@ pub fn svf(ic1: f32, ic2: f32, x: f32, g: f32, k: f32) -> [f32; 4] {
     out
 }
 
-/// The ten targets of a voice's settings.
-pub fn targets_of(p: &VoiceParams) -> [f32; 10] {
-    let mut out = [0.0; 10];
-    // SAFETY: `out` has the ten numbers that are written.
+/// The targets of a voice's settings.
+pub fn targets_of(p: &VoiceParams) -> [f32; TARGETS] {
+    let mut out = [0.0; TARGETS];
+    // SAFETY: `out` has the numbers that are written.
     ieee(|| unsafe {
-        ffi::sentivolus_targets_of(p.resonance, p.drive, p.saturation, p.character, p.stereo_offset, p.mix, p.level, p.morph_x, p.morph_y, &mut out)
+        ffi::sentivolus_targets_of(p.resonance, p.drive, p.saturation, p.character, p.stereo_offset, p.mix, p.level, p.morph_x, p.morph_y, p.morph_z,
+            &mut out)
     });
     out
 }

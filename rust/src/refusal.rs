@@ -35,10 +35,12 @@ pub enum Refusal {
     Blocks = 13,
     /// Targets, records or delay of an audition's scratch are not exactly as long as the setup asks.
     Scratch = 14,
+    /// A parked file has no words for the bank: its table has three axes, or the bits of a z number, of targets or records, are not all zero.
+    Unparkable = 15,
 }
 
 /// Each refusal with its word and its condition.
-const ALL: [(Refusal, &str, &str); 14] = [
+const ALL: [(Refusal, &str, &str); 15] = [
     (Refusal::Rate, "rate", "rate NaN, below 8,000 or above 384,000"),
     (Refusal::Tuning, "tuning", "reference NaN, below 1 or above 20,000"),
     (Refusal::Polyphony, "polyphony", "voices not 1 to 16"),
@@ -53,10 +55,11 @@ const ALL: [(Refusal, &str, &str); 14] = [
     (Refusal::Damaged, "damaged", "file's length no multiple of 512, or a block's sum wrong"),
     (Refusal::Blocks, "blocks", "block missing, doubled or unknown, or clean above 1"),
     (Refusal::Scratch, "scratch", "targets, records or delay of a scratch of a wrong length"),
+    (Refusal::Unparkable, "unparkable", "three-axis table, or a z number whose bits are not all zero"),
 ];
 
 impl Refusal {
-    /// The refusal of a number, 1 to 14.
+    /// The refusal of a number, 1 to 15.
     pub fn from_number(number: u32) -> Option<Refusal> {
         ALL.iter().map(|row| row.0).find(|r| r.number() == number)
     }

@@ -56,7 +56,7 @@ fn each_refusal_of_the_calls() {
     let (mut t, mut r, mut d) = lists(&s);
     open(&s, &mut t, &mut r, &mut d).unwrap();
     let p = VoiceParams::default();
-    assert_eq!(set(&s, 9, &mut t[..9], 0, &p), Err(Refusal::Store));
+    assert_eq!(set(&s, 9, &mut t[..TARGETS - 1], 0, &p), Err(Refusal::Store));
     assert_eq!(set(&s, 9, &mut t, usize::MAX, &p), Err(Refusal::Voice));
     assert_eq!(set(&s, 9, &mut t, 0, &VoiceParams { mix: f32::NAN, ..p }), Err(Refusal::Knob));
     assert_eq!(set(&s, 9, &mut t, 0, &p), Ok(9));
@@ -99,28 +99,29 @@ fn comb2_moves_the_cursor_and_its_ring() {
 #[test]
 fn section_refuses_a_ninth_point() {
     let d = Design::default();
-    assert!(section(&d, 7, 0.0, 0.0).is_ok());
-    assert_eq!(section(&d, 8, 0.0, 0.0), Err(Refusal::Point));
+    assert!(section(&d, 7, 0.0, 0.0, 0.0).is_ok());
+    assert_eq!(section(&d, 8, 0.0, 0.0, 0.0), Err(Refusal::Point));
     assert_eq!(table(&d).active, 0);
 }
 
 #[test]
 fn refusals_have_numbers_and_words() {
-    for n in 1..=14 {
+    for n in 1..=15 {
         assert_eq!(Refusal::from_number(n).unwrap().number(), n);
     }
-    assert_eq!((Refusal::from_number(0), Refusal::from_number(15)), (None, None));
+    assert_eq!((Refusal::from_number(0), Refusal::from_number(16)), (None, None));
     let error: Box<dyn std::error::Error> = Box::new(Refusal::Polyphony);
     assert_eq!((error.to_string(), Refusal::Knob.word()), ("refused 3, polyphony: voices not 1 to 16".into(), "knob"));
-    assert_eq!([Refusal::Damaged.word(), Refusal::Blocks.word(), Refusal::Scratch.word()], ["damaged", "blocks", "scratch"]);
+    assert_eq!([Refusal::Damaged.word(), Refusal::Blocks.word(), Refusal::Scratch.word(), Refusal::Unparkable.word()],
+        ["damaged", "blocks", "scratch", "unparkable"]);
 }
 
 #[test]
 fn defaults_are_the_archives() {
-    assert_eq!(VoiceParams::default(), VoiceParams::from_array([0.1, 0.0, 0.0, 0.0, 0.0, 1.0, 1.0, 0.0, 0.0]));
+    assert_eq!(VoiceParams::default(), VoiceParams::from_array([0.1, 0.0, 0.0, 0.0, 0.0, 1.0, 1.0, 0.0, 0.0, 0.0]));
     let bank = Bank::open(setup()).unwrap();
     assert_eq!(bank.targets(), targets_of(&VoiceParams::default()));
-    assert_eq!(version(), 800);
+    assert_eq!(version(), 900);
 }
 
 #[test]
@@ -393,10 +394,10 @@ fn a_scratch_of_another_length() {
 
 #[test]
 fn each_setting_arrives() {
-    let p = VoiceParams::from_array([0.25, 0.5, 0.0, 0.125, 3.0, 0.75, 2.0, 0.375, 1.0]);
+    let p = VoiceParams::from_array([0.25, 0.5, 0.0, 0.125, 3.0, 0.75, 2.0, 0.375, 1.0, 0.625]);
     let t = targets_of(&p);
-    assert_eq!([t[0], t[1], t[4], t[5], t[6], t[7], t[8], t[9]], [0.25, 0.5, 3.0, 0.75, 2.0, 0.125, 0.375, 1.0]);
+    assert_eq!([t[0], t[1], t[4], t[5], t[6], t[7], t[8], t[9], t[TARGET_Z]], [0.25, 0.5, 3.0, 0.75, 2.0, 0.125, 0.375, 1.0, 0.625]);
     let mut bank = Bank::open(Setup::new(Structure::PoleZero, 8000.0, 2, 1)).unwrap();
     bank.set(1, &p).unwrap();
-    assert_eq!(bank.targets()[10..], t);
+    assert_eq!(bank.targets()[TARGETS..], t);
 }

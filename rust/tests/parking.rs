@@ -3,7 +3,7 @@ use sentivolus::*;
 
 const BLOCK: usize = 512;
 
-/// A bank on lent lists, every number another one.
+/// A bank on lent lists, every number another one but z's and the far face, which are 0.
 #[derive(Clone)]
 struct Lent {
     setup: Setup,
@@ -16,10 +16,13 @@ struct Lent {
 fn lent(voices: usize, channels: usize) -> Lent {
     let numbers = |from: f32, n: usize| (0..n).map(|i| from + i as f32).collect::<Vec<f32>>();
     let mut table = Table { active: 0x8765_4321, gain: -1.5, ..Table::default() };
-    table.sections.copy_from_slice(&numbers(0.5, 160));
+    table.sections[..FACE].copy_from_slice(&numbers(0.5, FACE));
     let setup = Setup { clean: true, reference: 432.0, table, ..Setup::new(Structure::Comb2, 8000.0, voices, channels) };
     let [t, r, d] = setup.lengths().unwrap();
-    Lent { setup, cursor: 0x0123_4567_89ab_cdef, targets: numbers(1e3, t), records: numbers(-1e4, r), delay: numbers(1e5, d) }
+    let mut bank = Lent { setup, cursor: 0x0123_4567_89ab_cdef, targets: numbers(1e3, t), records: numbers(-1e4, r), delay: numbers(1e5, d) };
+    bank.targets.iter_mut().skip(TARGET_Z).step_by(TARGETS).for_each(|z| *z = 0.0);
+    bank.records.iter_mut().skip(RECORD_Z).step_by(RECORD).for_each(|z| *z = 0.0);
+    bank
 }
 
 impl Lent {
@@ -100,11 +103,11 @@ fn the_blocks_of_document_02() {
     let bank = lent(2, 2);
     let bits = |list: &[f32]| list.iter().map(|x| x.to_bits()).collect::<Vec<u32>>();
     let mut setup = vec![9, 2, 2, 1, 0x45fa_0000, 0x43d8_0000, 0x89ab_cdef, 0x0123_4567, 0x8765_4321];
-    setup.extend(bits(&bank.setup.table.sections));
+    setup.extend(bits(&bank.setup.table.sections[..FACE]));
     setup.push((-1.5f32).to_bits());
     let mut file = [written(1, 0, 0, &setup[..126]), written(1, 0, 1, &setup[126..])].concat();
-    bank.targets.chunks(10).enumerate().for_each(|(voice, t)| file.extend(written(2, voice, 0, &bits(t))));
-    bank.records.chunks(RECORD).enumerate().for_each(|(slot, r)| file.extend(written(3, slot, 0, &bits(r))));
+    bank.targets.chunks(TARGETS).enumerate().for_each(|(voice, t)| file.extend(written(2, voice, 0, &bits(&t[..TARGET_Z]))));
+    bank.records.chunks(RECORD).enumerate().for_each(|(slot, r)| file.extend(written(3, slot, 0, &bits(&r[..RECORD_Z]))));
     for (slot, ring) in bank.delay.chunks(1024).enumerate() {
         ring.chunks(126).enumerate().for_each(|(part, cells)| file.extend(written(4, slot, part, &bits(cells))));
     }
@@ -132,7 +135,7 @@ fn lengths_of_files() {
     assert_eq!([blocks(8000.0, 1, 1), blocks(48000.0, 16, 2), blocks(384_000.0, 16, 2)], [13, 2162, 16722]);
     assert_eq!([park_len(&setup(f32::NAN, 1, 1)), park_len(&setup(8000.0, usize::MAX, 1)), park_len(&Setup { code: 13, ..setup(8000.0, 1, 1) })], [0; 3]);
     let bank = Bank::open(setup(384_000.0, 1, 2)).unwrap();
-    assert_eq!(bank.park().len(), BLOCK * (2 + 1 + 2 + 2 * 521));
+    assert_eq!(bank.park().unwrap().len(), BLOCK * (2 + 1 + 2 + 2 * 521));
 }
 
 #[test]
@@ -150,7 +153,7 @@ fn any_order() {
 #[test]
 fn unused_words_are_ignored() {
     let bank = lent(1, 1);
-    for (i, used) in [(1, 44), (2, 10), (3, RECORD), (12, 1024 - 8 * 126)] {
+    for (i, used) in [(1, 44), (2, TARGET_Z), (3, RECORD_Z), (12, 1024 - 8 * 126)] {
         let mut file = bank.parked();
         assert!((used..126).all(|k| word(block(&mut file, i), k + 1) == 0));
         for k in [used, 125] {
@@ -170,7 +173,7 @@ fn numbers_of_every_kind() {
         let x = f32::from_bits(bits);
         (bank.targets[9], bank.records[PEAK], bank.delay[1023], bank.setup.table.sections[116], bank.setup.table.gain) = (x, x, x, x, x);
         let mut file = bank.parked();
-        let places = [(0, 126), (1, 44), (2, 10), (3, RECORD), (12, 1024 - 8 * 126)];
+        let places = [(0, 126), (1, 44), (2, 10), (3, 1 + PEAK), (12, 1024 - 8 * 126)];
         assert_eq!(places.map(|(i, k)| word(block(&mut file, i), k)), [parked; 5]);
         places.iter().for_each(|(i, k)| put(block(&mut file, *i), *k, bits));
         let mut restored = bank.blank();
@@ -322,8 +325,8 @@ fn bits(bank: &Bank) -> Vec<u32> {
 #[test]
 fn files_parked_earlier() {
     let bank = sounding(4);
-    let mut file = bank.park();
-    (4..8).for_each(|i| put(block(&mut file, i), RECORD, 0));
+    let mut file = bank.park().unwrap();
+    (4..8).for_each(|i| put(block(&mut file, i), 1 + PEAK, 0));
     let restored = Bank::restore(&file).unwrap();
     for (slot, (channel, voice)) in [(0, 0), (0, 1), (1, 0), (1, 1)].into_iter().enumerate() {
         assert_eq!(restored.peak(channel, voice).map(f32::to_bits), Some(0));
@@ -338,10 +341,10 @@ fn files_parked_earlier() {
 fn the_same_sound() {
     for code in 1..=12 {
         let mut bank = sounding(code);
-        let file = bank.park();
+        let file = bank.park().unwrap();
         let mut restored = Bank::restore(&file).unwrap();
         assert_eq!((restored.setup(), restored.cursor(), restored.counts()), (bank.setup(), bank.cursor(), &[0; 4][..]), "code {code}");
-        assert!(bits(&restored) == bits(&bank) && restored.park() == file, "code {code}");
+        assert!(bits(&restored) == bits(&bank) && restored.park() == Ok(file), "code {code}");
         assert!(play(&mut restored, 500) == play(&mut bank, 500), "code {code}");
         assert_eq!((restored.counts(), restored.cursor()), (bank.counts(), bank.cursor()), "code {code}");
         assert!(bits(&restored) == bits(&bank), "code {code}");

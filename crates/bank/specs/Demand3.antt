@@ -1,13 +1,13 @@
 -- Demand 3 at the bank's engine (document 01, 'A voice from its feed'; document 02, C-11: counts are compared too; C-12 and C-16: lists with park,
--- restore and audition): the two statements, then their proofs from voices/specs/Voice and the engine's laws. That a call
+-- restore and audition; C-17: ignored numbers): the two statements, then their proofs from voices/specs/Voice and the engine's laws. That a call
 -- in a list does what its contract says of a bank alone is voices/specs/Alone. Assumes nothing.
-use mathlib.Core.Path.{_≡_, subst}
+use mathlib.Core.Path.{_≡_, transport}
 use Prim.Native.Nat.{ℕ, _<_}
 use mathlib.Core.List.{List}
 use Rattle.filter.specs.declared.VoiceParams.{VoiceParams}
-use Rattle.slots.specs.Engine.{engineOf}
-use Rattle.setups.specs.Setup.{SoloSetup}
+use Rattle.setups.specs.Setup.{heard}
 use Rattle.slots.specs.Laws.{engine-laws}
+use Rattle.slots.specs.Heard.{same-engine}
 use Rattle.voices.specs.Calls.{fine, Bank, Call, Run, openVerdict, opened, run, Returning}
 use Rattle.voices.specs.Feed.{Event, feed, Same, Alike}
 use Rattle.voices.specs.Voice.{theorem, corollary}
@@ -42,11 +42,11 @@ EachVoice s =
     → IsOpened s b → v < s .voices → OfJustParked s b xs
     → Same (engine s) (s .voices) v (bankAfter s b xs) (feedOf s v b xs)
 
--- Two setups that are alike but for their voices, sixteen against one or any: voices of the two banks agree in all that is compared
--- if their feeds are equal.
+-- Two setups that are alike but for their voices, sixteen against one or any, and for numbers that are ignored (C-17): voices of the two banks agree in
+-- all that is compared if their feeds are equal.
 abbrev pub TwoSetups : Setup → Setup → Type 0
 TwoSetups s t =
-    soloOf s ≡ soloOf t
+    heard (soloOf s) ≡ heard (soloOf t)
     → (v u : ℕ) (b d : Bank) (xs ys : List (Call VoiceParams))
     → IsOpened s b → IsOpened t d → v < s .voices → u < t .voices
     → OfJustParked s b xs → OfJustParked t d ys
@@ -56,13 +56,14 @@ TwoSetups s t =
 pub demand3 : (s : Setup) → EachVoice s
 demand3 s = theorem (engine s) (engine-laws (soloOf s)) (s .voices)
 
--- over the solo setups: where they are one, the engines are
+-- the engines are one, and on the way from one to the other the settings' type stays
 pub two-setups : (s t : Setup) → TwoSetups s t
+unfolding same-engine
 two-setups s t e =
-    subst (λ (o : SoloSetup).
+    transport (λ i. let E = same-engine (soloOf s) (soloOf t) e i in
     (v u : ℕ) (b d : Bank) (xs ys : List (Call VoiceParams))
-    → IsOpened s b → openVerdict (engineOf o) (t .voices) d ≡ fine → v < s .voices → u < t .voices
-    → OfJustParked s b xs → Returning (engineOf o) (t .voices) ys (opened (engineOf o) (t .voices) d)
-    → feedOf s v b xs ≡ feed (engineOf o) (t .voices) u ys (opened (engineOf o) (t .voices) d)
-    → Alike (engine s) (s .voices) (t .voices) v u (bankAfter s b xs) (run (engineOf o) (t .voices) ys (opened (engineOf o) (t .voices) d)))
-    e (corollary (engine s) (engine-laws (soloOf s)) (s .voices) (t .voices))
+    → IsOpened s b → openVerdict E (t .voices) d ≡ fine → v < s .voices → u < t .voices
+    → OfJustParked s b xs → Returning E (t .voices) ys (opened E (t .voices) d)
+    → feedOf s v b xs ≡ feed E (t .voices) u ys (opened E (t .voices) d)
+    → Alike (engine s) (s .voices) (t .voices) v u (bankAfter s b xs) (run E (t .voices) ys (opened E (t .voices) d)))
+    (corollary (engine s) (engine-laws (soloOf s)) (s .voices) (t .voices))

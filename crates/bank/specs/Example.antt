@@ -2,21 +2,23 @@
 -- feed that computes to what one expects. By computation; no tick is opened. Assumes nothing.
 use mathlib.Core.Path.{_≡_, refl}
 use Prim.Native.Nat.{ℕ, _*_}
-use mathlib.Core.Bool.{true, false}
+use mathlib.Core.Bool.{Bool, true, false}
 use mathlib.Core.Option.{some}
-use mathlib.Core.List.{List, [], _∷_}
-use lib.Ieee.{Float, nan, binary32, ofBits, isNan, lt, round, size, mul, toUnsigned}
+use mathlib.Core.List.{List, [], _∷_, _++_}
+use lib.Ieee.{Float, nan, binary32, ofBits, isNan, toBits, lt, round, size, mul, toUnsigned}
 use lib.ListN.{replicate}
-use Rattle.lane.specs.Floats.{whole}
+use Rattle.lane.specs.Floats.{whole, zero}
+use Rattle.lane.specs.Lane.{clampOf}
 use Rattle.lines.specs.Lines.{rateRefused, nextPower, ringLen}
 use Rattle.filter.specs.declared.VoiceParams.{VoiceParams}
-use Rattle.filter.specs.Voice.{defaultParams, targetsOf, morphTargetsOf, voiceTargets, nanKnob}
+use Rattle.filter.specs.Voice.{defaultParams, unitOrNan, targetsOf, morphOf, morphTargetsOf, voiceTargets, nanKnob}
 use Rattle.pole_zero.specs.declared.Table.{Table}
-use Rattle.parts.specs.Parts.{tab, piece, patch}
+use Rattle.parts.specs.Parts.{tab, flat, piece, patch}
+use Rattle.text.specs.Text.{bitsOf}
 use Rattle.places.specs.Places.{count, every, soundFile, isOnce}
 use Rattle.setups.specs.Setup.{referenceRefused, setupCheckOf}
 use Rattle.setups.specs.Parked.{fileVerdict, restoreVerdict}
-use Rattle.voices.specs.Calls.{targetsWidth, recordWidth, fine, refused, check, _then_, Bank, Block, Call, callSet, callStart, callBlock}
+use Rattle.voices.specs.Calls.{isClear, fine, refused, check, _then_, Bank, Block, Call, callSet, callStart, callBlock}
 use Rattle.voices.specs.Calls.{callPark, callRestore, callAudition, setOf, startSlot, startOf, openOf, openVerdict, verdict, opened}
 use Rattle.voices.specs.Feed.{Frame, eventSet, eventStart, eventFrame, feed}
 use Rattle.checks.specs.declared.Setup.{Setup}
@@ -26,9 +28,18 @@ use Rattle.checks.specs.Setup.{engine}
 setup : Table → Setup
 setup t = record { code = 2; rate = whole 8000; reference = whole 440; voices = 2; channels = 1; clean = false; table = t }
 
--- lists for them, with any content
+-- any numbers in a table of two axes, or of three
+table : (three : Bool) (sections : List Float) → Table
+table three sections = record { active = 3; three = three; sections = sections; gain = nan }
+
+-- lists for them, with any content but z, which is +0
 lists : Bank
-lists = record { targets = replicate (2 * targetsWidth) nan; records = replicate (2 * recordWidth) nan; delay = replicate (2 * 1024) nan; cursor = 7 }
+lists = record {
+  targets = flat (λ v. replicate 10 nan ++ zero ∷ []) 2;
+  records = flat (λ s. replicate 31 nan ++ zero ∷ []) 2;
+  delay = replicate (2 * 1024) nan;
+  cursor = 7;
+}
 
 open-is-accepted : (t : Table) → openVerdict (engine (setup t)) 2 lists ≡ fine
 unfolding setup lists setupCheckOf referenceRefused rateRefused ringLen nextPower check _then_ isNan lt round size mul toUnsigned
@@ -63,9 +74,14 @@ unfolding setup lists setupCheckOf referenceRefused rateRefused ringLen nextPowe
 voice-is-refused t = refl
 
 -- 24 blocks: two of the setup, two of targets, two of records, nine of each ring
-park-is-accepted : (t : Table) → verdict (engine (setup t)) 2 (callPark 12288) lists ≡ fine
-unfolding setup lists setupCheckOf referenceRefused rateRefused ringLen nextPower check _then_ isNan lt round size mul toUnsigned
-park-is-accepted t = refl
+park-is-accepted : (xs : List Float) → verdict (engine (setup (table false xs))) 2 (callPark 12288) lists ≡ fine
+unfolding setup table lists setupCheckOf referenceRefused rateRefused ringLen nextPower check _then_ isClear every bitsOf isNan toBits lt round size mul
+    toUnsigned
+park-is-accepted xs = refl
+
+axes-are-refused : (xs : List Float) → verdict (engine (setup (table true xs))) 2 (callPark 12288) lists ≡ refused 15
+unfolding setup table lists setupCheckOf referenceRefused rateRefused ringLen nextPower check _then_ isNan lt round size mul toUnsigned
+axes-are-refused xs = refl
 
 audition-is-accepted : (t : Table) → verdict (engine (setup t)) 2 (callAudition block lists) lists ≡ fine
 unfolding setup lists block setupCheckOf referenceRefused rateRefused ringLen nextPower check _then_ isNan lt round size mul toUnsigned
@@ -86,10 +102,11 @@ frame1 : Frame
 frame1 = record { pitch = number 3; inputs = number 3 ∷ []; steering = some (number 3, nan) }
 
 -- the refused calls, the other voice's set, the park and the audition add nothing
-feed-computes : (t : Table)
-    → feed (engine (setup t)) 2 1 calls (opened (engine (setup t)) 2 lists)
+feed-computes : (xs : List Float)
+    → feed (engine (setup (table false xs))) 2 1 calls (opened (engine (setup (table false xs))) 2 lists)
     ≡ eventSet defaultParams ∷ eventStart ∷ eventFrame frame0 ∷ eventFrame frame1 ∷ []
-unfolding setup lists setupCheckOf referenceRefused rateRefused ringLen nextPower check _then_ isNan lt round size mul toUnsigned
+unfolding setup table lists setupCheckOf referenceRefused rateRefused ringLen nextPower check _then_ isNan lt round size mul toUnsigned
+    isClear bitsOf toBits morphOf unitOrNan clampOf
     restoreVerdict fileVerdict soundFile every isOnce count block noLists calls frame0 frame1 openOf startOf startSlot setOf piece patch
     nanKnob defaultParams voiceTargets targetsOf morphTargetsOf
-feed-computes t = refl
+feed-computes xs = refl

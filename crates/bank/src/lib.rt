@@ -14,6 +14,7 @@ use checks::Verdict;
 use filter::VoiceParams;
 use run::Structure;
 use slots::Prepared;
+use voices::TARGETS_WIDTH;
 
 // A refusal's number; of set and start the cursor that they were given; of block the new cursor and the frames rendered.
 pub enum Answer {
@@ -27,12 +28,12 @@ fn set_voice(targets: &mut [f32], voices: usize, voice: usize, p: VoiceParams)
     requires { ⌜ (voice < voices) × (length (now targets) ≡ voices * targetsWidth) ⌝ }
     ensures { λ _. ⌜ now (targets .exit) ≡ patch targetsWidth voice (voiceTargets p) (now (targets .entry)) ⌝ }
 {
-    let at = slots::start_of(voice, 10, voices, targets.len());
+    let at = slots::start_of(voice, TARGETS_WIDTH, voices, targets.len());
     let goals = filter::voice_targets(p);
-    slots::copy(&goals, 0, targets, at, 10);
+    slots::copy(&goals, 0, targets, at, TARGETS_WIDTH);
 }
 
-// Copies a voice's targets to its smoothed and morph numbers on every channel, and zeroes its states and rings.
+// Copies a voice's targets to its smoothed numbers on every channel, and zeroes its states, peaks and rings.
 fn start_voice(setup: Setup, targets: &[f32], records: &mut [f32], delay: &mut [f32], voice: usize)
     requires { ⌜ (Ready setup (bankOf (now targets) (now records) (now delay) 0)) × (voice < setup .voices) ⌝ }
     ensures { λ _. ⌜ Started setup voice (now (targets .entry)) (now (records .entry)) (now (delay .entry))
@@ -41,8 +42,8 @@ fn start_voice(setup: Setup, targets: &[f32], records: &mut [f32], delay: &mut [
     let voices = setup.voices;
     let len = lines::ring_len(setup.rate);
     let slots = setup.channels * voices;
-    let from = slots::start_of(voice, 10, voices, targets.len());
-    let goals = slots::load_ten(targets, from);
+    let from = slots::start_of(voice, TARGETS_WIDTH, voices, targets.len());
+    let goals = slots::load_targets(targets, from);
     let mut c: usize = 0;
     while c < setup.channels {
         let slot = slots::place_at(c, voices, voice, setup.channels, slots);
@@ -165,6 +166,7 @@ pub fn block(
         m: Structure {
             code: setup.code,
             active: table.active,
+            three: table.three,
             gain: table.gain,
             k: run::constants_of(setup.rate, setup.reference, setup.clean),
         },

@@ -2,14 +2,18 @@
 ghost use mathlib.Core.Path.{_≡_};
 ghost use mathlib.Core.Bool.{cond};
 ghost use mathlib.Core.List.{[]};
+ghost use Prim.Native.Nat.{_*_, _<_};
+ghost use lib.ListN.{length};
 ghost use Rattle.setups.specs.Setup.{referenceRefused, within, setupCheckOf};
 ghost use Rattle.lines.specs.Lines.{ringLen};
 ghost use Rattle.voices.specs.Calls.{fine, callSet, callStart, callBlock, callPark, callAudition, areLong, fileLength};
+ghost use Rattle.voices.specs.Calls.{targetsWidth, recordWidth, isClear, isFlat};
 ghost use Rattle.checks.specs.Setup.{soloOf, engine};
 ghost use Rattle.checks.specs.Checks.{checkOf, bankOf, blockFrom, IsOpenVerdict, IsVerdict};
 use filter::VoiceParams;
 use pole_zero::Table;
 use voices::RECORD_WIDTH;
+use voices::TARGETS_WIDTH;
 
 // What a bank is opened with, and every later call is given again.
 pub struct Setup {
@@ -80,7 +84,7 @@ fn are_long(setup: Setup, targets: &[f32], records: &[f32], delay: &[f32]) -> bo
         (bankOf (now (targets .entry)) (now (records .entry)) (now (delay .entry)) 0) ⌝ }
 {
     let slots = setup.channels * setup.voices;
-    if targets.len() != setup.voices * 10 {
+    if targets.len() != setup.voices * TARGETS_WIDTH {
         return false;
     }
     if records.len() != slots * RECORD_WIDTH {
@@ -111,7 +115,7 @@ pub fn set_check(setup: Setup, targets: &[f32], voice: usize, p: VoiceParams) ->
     if let Verdict::Refused(n) = first {
         return Verdict::Refused(n);
     }
-    if targets.len() != setup.voices * 10 {
+    if targets.len() != setup.voices * TARGETS_WIDTH {
         return Verdict::Refused(6);
     }
     if setup.voices <= voice {
@@ -153,7 +157,35 @@ pub fn file_length(setup: Setup) -> usize
     (2 + setup.voices + slots + slots * parts) * 512
 }
 
-// Those of open, then 6 of the list that park writes.
+// Whether the number at one place of each of so many rows has no bit set: +0, not -0.
+fn is_clear(list: &[f32], width: usize, place: usize, rows: usize) -> bool
+    requires { ⌜ (place < width) × (length (now list) ≡ rows * width) ⌝ }
+    ensures { λ r. ⌜ r ≡ isClear width place rows (now (list .entry)) ⌝ }
+{
+    let mut clear = true;
+    let mut i: usize = 0;
+    while i < rows {
+        let at = slots::place_at(i, width, place, rows, list.len());
+        clear = clear & (text::bits_of(list[at]) == 0);
+        i += 1;
+    }
+    clear
+}
+
+// Whether z has no bit set, in the targets of every voice and the record of every slot (C-17).
+fn is_flat(setup: Setup, targets: &[f32], records: &[f32]) -> bool
+    requires { ⌜ (length (now targets) ≡ setup .voices * targetsWidth) × (length (now records) ≡ setup .channels * setup .voices * recordWidth) ⌝ }
+    requires { ⌜ setupCheckOf (soloOf setup) (setup .voices) ≡ fine ⌝ }
+    ensures { λ r. ⌜ r ≡ isFlat (setup .channels) (setup .voices) (bankOf (now (targets .entry)) (now (records .entry)) [] 0) ⌝ }
+{
+    let slots = setup.channels * setup.voices;
+    if !is_clear(targets, TARGETS_WIDTH, TARGETS_WIDTH - 1, setup.voices) {
+        return false;
+    }
+    is_clear(records, RECORD_WIDTH, RECORD_WIDTH - 1, slots)
+}
+
+// Those of open, then 6 of the list that park writes, then 15 of a third axis (C-17), for which a parked file has no words.
 pub fn park_check(
     setup: Setup,
     targets: &[f32],
@@ -169,6 +201,13 @@ pub fn park_check(
     }
     if written != file_length(setup) {
         return Verdict::Refused(6);
+    }
+    let table = setup.table;
+    if table.three {
+        return Verdict::Refused(15);
+    }
+    if !is_flat(setup, targets, records) {
+        return Verdict::Refused(15);
     }
     Verdict::Fine
 }

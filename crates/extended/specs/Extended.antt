@@ -1,12 +1,15 @@
--- What every extended kernel works with (extended.rs): one tick's settings, the shapers, the marks of each structure.
+-- What every extended kernel works with (extended.rs; document 02, C-17): one tick's settings, the shapers, the marks of each structure.
 -- Definitions only. Assumes nothing.
 use Prim.Native.Nat.{ℕ}
 use mathlib.Core.Bool.{Bool, _||_, _&&_}
 use mathlib.Core.List.{List}
 use lib.Dec.{eqb, leb}
 use lib.Ieee.{Float, neg}
-use Rattle.lane.specs.Floats.{_⊕_, _⊖_, _⊗_, _⊘_, decimal, whole, zero, one}
+use Rattle.lane.specs.Floats.{_⊕_, _⊖_, _⊗_, _⊘_, _‼_, decimal, whole, zero, one}
 use Rattle.lane.specs.Lane.{maxOf, minOf, softClip}
+use Rattle.filter.specs.declared.Ratio.{Ratio}
+use Rattle.filter.specs.Voice.{RES, «INV_KNEE», CHARACTER, «MORPH_Z»}
+use Rattle.extended.specs.declared.Settings.{Settings}
 
 -- what a kernel's tick gives: its sample, and its 20 states after it
 pub record Ticked : Type 0 where
@@ -15,6 +18,21 @@ pub record Ticked : Type 0 where
 
 abbrev pub ticked : Float → List Float → Ticked
 ticked out state = record { out = out; state = state }
+
+-- one tick's settings: from the smoothed numbers, and x and y after steering and lag. z (C-17) is the smoothed one, without either; PoleZero holds it to
+-- 0 .. 1
+unfoldable pub settingsAt : Ratio → (params : List Float) (x y : Float) → Settings
+settingsAt reference params x y =
+    record {
+      resonance = params ‼ RES;
+      «inv_knee» = params ‼ «INV_KNEE»;
+      character = params ‼ CHARACTER;
+      x = x;
+      y = y;
+      z = params ‼ «MORPH_Z»;
+      «ref_over_rate» = reference;
+      «reference_ratio» = reference;
+    }
 
 -- unit: held to 0 .. 1 by max and min, so a NaN becomes 0
 unfoldable pub unitOr0 : Float → Float

@@ -1,7 +1,7 @@
 // What every extended kernel works with: one tick's settings and the shapers.
 ghost use mathlib.Core.Path.{_≡_};
 ghost use mathlib.Core.Bool.{Bool};
-ghost use Rattle.extended.specs.Extended.{unitOr0, absOf, asymSlope, asymOf, smoothMark, linesMark};
+ghost use Rattle.extended.specs.Extended.{settingsAt, unitOr0, absOf, asymSlope, asymOf, smoothMark, linesMark};
 use filter::Ratio;
 
 // One sample's settings, smoothed. `ref_over_rate` is the reference over the rate for the gains,
@@ -12,8 +12,34 @@ pub struct Settings {
     pub character: f32,
     pub x: f32,
     pub y: f32,
+    pub z: f32,
     pub ref_over_rate: Ratio,
     pub reference_ratio: Ratio,
+}
+
+// Where the settings stand among the smoothed numbers.
+const RES: usize = 0;
+
+const INV_KNEE: usize = 3;
+
+const CHARACTER: usize = 7;
+
+const MORPH_Z: usize = 10;
+
+// The settings of the smoothed numbers, at X and Y.
+pub fn settings_at(reference: Ratio, params: &[f32; 11], x: f32, y: f32) -> Settings
+    ensures { λ r. ⌜ r ≡ settingsAt reference (now (params .entry)) x y ⌝ }
+{
+    Settings {
+        resonance: params[RES],
+        inv_knee: params[INV_KNEE],
+        character: params[CHARACTER],
+        x: x,
+        y: y,
+        z: params[MORPH_Z],
+        ref_over_rate: reference,
+        reference_ratio: reference,
+    }
 }
 
 // The asymmetric shaper's bias.

@@ -37,12 +37,12 @@ module _ (v s L p : ℕ) (file pos : List ℕ) (t r d : ℕ) (ready : Ready v s 
       let e : getD pos k 0 - 1 ≡ placeOf (numberAt v s p file) k (blocksIn file) = omega (arith, ready .places k l) in
       ap (λ (b : ℕ). piece 512 b file) e ∙ sym (with-number v s p file (ready .voices) (ready .slots) placed k l)
 
-  pub rows-found : (first kind rows M q : ℕ) (out : List Float) → 0 < M → M ≤ q * 126 → first + rows * q ≤ total v s p
+  pub rows-found : (first kind rows C M q : ℕ) (out : List Float) → 0 < M → M ≤ q * 126 → first + rows * q ≤ total v s p
       → ((j : ℕ) → j < rows * q → headAt v s p (first + j) ≡ headOf kind (j / q) (j % q))
-      → out ≡ restoredRows (λ j. piece 512 (getD pos (first + j) 0 - 1) file) M q (rows * M)
-      → out ≡ numbersIn file kind M (rows * M)
-  rows-found first kind rows M q out some hold fit head e =
+      → out ≡ restoredRows (λ j. piece 512 (getD pos (first + j) 0 - 1) file) C M q (rows * M)
+      → out ≡ numbersIn file kind C M (rows * M)
+  rows-found first kind rows C M q out some hold fit head e =
       e
-      ∙ rows-same M q some hold (λ j. piece 512 (getD pos (first + j) 0 - 1) file) (λ j. blockWith file (headOf kind (j / q) (j % q))) rows
+      ∙ rows-same C M q some hold (λ j. piece 512 (getD pos (first + j) 0 - 1) file) (λ j. blockWith file (headOf kind (j / q) (j % q))) rows
       (λ j l. named (first + j) (omega arith) ∙ ap (blockWith file) (head j l))
-      ∙ sym (numbers-are file kind M q some hold rows)
+      ∙ sym (numbers-are file kind C M q some hold rows)

@@ -10,6 +10,7 @@ use Rattle.voices.specs.Calls.{targetsWidth, recordWidth}
 use Rattle.blocks.specs.Blocks.{total}
 use Rattle.places.specs.Places.{placeOf, blocksIn, numberAt, isWhole}
 use Rattle.rows.specs.Rows.{numbersIn}
+use Rattle.files.specs.File.{parkedTargets, parkedRecord}
 use Rattle.files.specs.Image.{Image, blocksOf, Whole}
 
 abbrev pub imageOf : (v s L p : ℕ) (setup : List ℕ) (targets records delay : List Float) → Image
@@ -36,6 +37,6 @@ pub record Ready (v s L p : ℕ) (file pos : List ℕ) (targets records delay : 
   pub delay-length : delay ≡ s * L
 
 pub record Restored (v s L : ℕ) (file : List ℕ) (targets records delay : List Float) : Type 0 where
-  pub targets-are : targets ≡ numbersIn file 2 targetsWidth (v * targetsWidth)
-  pub records-are : records ≡ numbersIn file 3 recordWidth (s * recordWidth)
-  pub delay-are : delay ≡ numbersIn file 4 L (s * L)
+  pub targets-are : targets ≡ numbersIn file 2 parkedTargets targetsWidth (v * targetsWidth)
+  pub records-are : records ≡ numbersIn file 3 parkedRecord recordWidth (s * recordWidth)
+  pub delay-are : delay ≡ numbersIn file 4 L L (s * L)

@@ -10,9 +10,16 @@ use Rattle.voices.specs.Calls.{targetsWidth, recordWidth}
 use Rattle.blocks.specs.Blocks.{headOf, blockBytes, partsOf}
 use Rattle.rows.specs.Rows.{rowBlock}
 
+-- C-17: "Kinds 2 and 3 still carry ten and thirty-one numbers": all but z of a voice's targets and of a slot's record
+abbrev pub parkedTargets : ℕ
+parkedTargets = 10
+
+abbrev pub parkedRecord : ℕ
+parkedRecord = 31
+
 unfoldable pub fileOf : (v s L : ℕ) (setup : List ℕ) (targets records delay : List Float) → List ℕ
 fileOf v s L setup targets records delay =
     flat (λ q. blockBytes (headOf 1 0 q) (piece 126 q setup)) 2
-    ++ flat (λ i. rowBlock 2 targetsWidth targets i 0) v
-    ++ flat (λ i. rowBlock 3 recordWidth records i 0) s
-    ++ flat (λ i. flat (rowBlock 4 L delay i) (partsOf L)) s
+    ++ flat (λ i. rowBlock 2 parkedTargets targetsWidth targets i 0) v
+    ++ flat (λ i. rowBlock 3 parkedRecord recordWidth records i 0) s
+    ++ flat (λ i. flat (rowBlock 4 L L delay i) (partsOf L)) s

@@ -12,6 +12,7 @@ use Rattle.voices.specs.Calls.{targetsWidth, recordWidth}
 use Rattle.blocks.specs.Blocks.{blockBytes, total}
 use Rattle.places.specs.Heads.{headAt}
 use Rattle.rows.specs.Rows.{rowWords}
+use Rattle.files.specs.File.{parkedTargets, parkedRecord}
 
 pub record Image : Type 0 where
   -- voices, slots, cells of a ring, parts of a ring
@@ -32,9 +33,9 @@ either false a b = b
 unfoldable pub contentOf : Image → ℕ → List ℕ
 contentOf im k =
     either (ltb k 2) (piece 126 k (im .setup))
-    (either (ltb k (2 + im .v)) (rowWords targetsWidth (im .targets) (k - 2) 0)
-    (either (ltb k (2 + im .v + im .s)) (rowWords recordWidth (im .records) (k - (2 + im .v)) 0)
-    (rowWords (im .L) (im .delay) ((k - (2 + im .v + im .s)) / im .p) ((k - (2 + im .v + im .s)) % im .p))))
+    (either (ltb k (2 + im .v)) (rowWords parkedTargets targetsWidth (im .targets) (k - 2) 0)
+    (either (ltb k (2 + im .v + im .s)) (rowWords parkedRecord recordWidth (im .records) (k - (2 + im .v)) 0)
+    (rowWords (im .L) (im .L) (im .delay) ((k - (2 + im .v + im .s)) / im .p) ((k - (2 + im .v + im .s)) % im .p))))
 
 unfoldable pub blockAt : Image → ℕ → List ℕ
 unfolding contentOf

@@ -17,6 +17,7 @@ use Rattle.blocks.specs.Blocks.{headOf, blockBytes}
 use Rattle.places.specs.Places.{pick}
 use Rattle.places.specs.Heads.{headAt}
 use Rattle.rows.specs.Asks.{rowsBlock, rowsWritten}
+use Rattle.files.specs.File.{parkedTargets, parkedRecord}
 use Rattle.files.specs.Image.{Image, blockAt, blocksOf, imageFile}
 use Rattle.files.specs.Trip.{length-at, setup-content, target-content, record-content, ring-content}
 
@@ -39,15 +40,15 @@ module _ (im : Image) (out : List ℕ) (room : length out ≡ blocksOf im * 512)
   made-whole = flat-whole 512 (blockAt im) (blocksOf im) out room
 
   -- a run of n blocks from block `first` on
-  pub made-rows : (first kind L p : ℕ) (xs : List Float) (n : ℕ) → first + n ≤ blocksOf im
-      → ((j : ℕ) → j < n → rowsBlock kind L p xs j ≡ blockAt im (first + j))
-      → rowsWritten first kind L p xs n (made im first out) ≡ made im (first + n) out
+  pub made-rows : (first kind C L p : ℕ) (xs : List Float) (n : ℕ) → first + n ≤ blocksOf im
+      → ((j : ℕ) → j < n → rowsBlock kind C L p xs j ≡ blockAt im (first + j))
+      → rowsWritten first kind C L p xs n (made im first out) ≡ made im (first + n) out
   unfolding rowsWritten
-  made-rows first kind L p xs zero l h = let e : first ≡ first + 0 = omega arith in ap (λ (k : ℕ). made im k out) e
-  made-rows first kind L p xs (suc n) l h =
+  made-rows first kind C L p xs zero l h = let e : first ≡ first + 0 = omega arith in ap (λ (k : ℕ). made im k out) e
+  made-rows first kind C L p xs (suc n) l h =
       let e : suc (first + n) ≡ first + suc n = omega arith in
-      ap (patch 512 (first + n) (rowsBlock kind L p xs n)) (made-rows first kind L p xs n (omega arith) (λ j u. h j (le-step u)))
-      ∙ made-next (first + n) (rowsBlock kind L p xs n) (omega arith) (h n (le-refl (suc n)))
+      ap (patch 512 (first + n) (rowsBlock kind C L p xs n)) (made-rows first kind C L p xs n (omega arith) (λ j u. h j (le-step u)))
+      ∙ made-next (first + n) (rowsBlock kind C L p xs n) (omega arith) (h n (le-refl (suc n)))
       ∙ ap (λ (k : ℕ). made im k out) e
 
 -- ---- what the code writes is the block of its number
@@ -73,7 +74,7 @@ module _ (im : Image) where
       (pick (lt-ltb k 2 h i) (headOf 1 0 k) (pick (ltb k (2 + v)) (headOf 2 (k - 2) 0) (pick (ltb k (2 + v + s)) (headOf 3 (k - (2 + v)) 0) (ringHead k))))
       (setup-content im k h i))
 
-  pub target-block : (j : ℕ) → j < v * 1 → rowsBlock 2 targetsWidth 1 (im .targets) j ≡ blockAt im (2 + j)
+  pub target-block : (j : ℕ) → j < v * 1 → rowsBlock 2 parkedTargets targetsWidth 1 (im .targets) j ≡ blockAt im (2 + j)
   unfolding blockAt headAt
   target-block j h =
       let k : ℕ = 2 + j in
@@ -85,7 +86,7 @@ module _ (im : Image) where
       (pick (lt-ltb k (2 + v) (omega arith) i) (headOf 2 (e i) (q i)) (pick (ltb k (2 + v + s)) (headOf 3 (k - (2 + v)) 0) (ringHead k))))
       (target-content im j h i))
 
-  pub record-block : (j : ℕ) → j < s * 1 → rowsBlock 3 recordWidth 1 (im .records) j ≡ blockAt im (2 + v + j)
+  pub record-block : (j : ℕ) → j < s * 1 → rowsBlock 3 parkedRecord recordWidth 1 (im .records) j ≡ blockAt im (2 + v + j)
   unfolding blockAt headAt
   record-block j h =
       let k : ℕ = 2 + v + j in
@@ -97,7 +98,7 @@ module _ (im : Image) where
       (pick (le-ltb k (2 + v) (omega arith) i) (headOf 2 (k - 2) 0) (pick (lt-ltb k (2 + v + s) (omega arith) i) (headOf 3 (e i) (q i)) (ringHead k))))
       (record-content im j h i))
 
-  pub ring-block : (j : ℕ) → rowsBlock 4 (im .L) p (im .delay) j ≡ blockAt im (2 + v + s + j)
+  pub ring-block : (j : ℕ) → rowsBlock 4 (im .L) (im .L) p (im .delay) j ≡ blockAt im (2 + v + s + j)
   unfolding blockAt headAt
   ring-block j =
       let k : ℕ = 2 + v + s + j in

@@ -1,30 +1,32 @@
 -- For the proofs: nothing here must be believed.
--- Restoring what was parked gives the image back. Block k of a parked file has number k, so each head stands once, at its number; then each list is
--- `rows-back`'s. Assumes nothing.
+-- Restoring what was parked gives the image back, if its z numbers have no bit set. Block k of a parked file has number k, so each head stands once, at
+-- its number; then each list is `rows-back`'s. Assumes nothing.
 use mathlib.Core.Path.{_≡_, sym, ap, _∙_, subst}
 use mathlib.Core.Bool.{true}
 use Prim.Native.Nat.{ℕ, _+_, _-_, _*_, _/_, _%_, _≤_, _<_}
-use native.Mathlib.Nat.{div-add-mod'}
+use native.Mathlib.Nat.{mod-lt, div-add-mod', div-lt-iff-lt-mul}
 use native.Mathlib.Omega.{arith}
 use mathlib.Core.List.{List}
-use lib.Dec.{ltb}
+use lib.Dec.{ltb, eqb}
 use lib.ListN.{length, getD}
-use lib.Ieee.{Float}
-use borrow.Author.Tests.{lt-ltb, le-ltb}
+use lib.Ieee.{Float, nan}
+use borrow.Author.Tests.{lt-ltb, le-ltb, eqb-true}
 use Rattle.parts.specs.Parts.{piece}
 use Rattle.parts.specs.Laws.{piece-get}
 use Rattle.parts.specs.Flat.{flat-at, length-flat}
-use Rattle.voices.specs.Calls.{targetsWidth, recordWidth}
+use Rattle.voices.specs.Calls.{targetsWidth, recordWidth, targetZ, recordZ, isClear}
+use Rattle.text.specs.Text.{bitsOf}
 use Rattle.blocks.specs.Blocks.{headOf, blockBytes, contentAt, soundBlock}
 use Rattle.blocks.specs.Laws.{block-head, block-content, length-block, block-sound}
 use Rattle.places.specs.Places.{placeOf, blocksIn, soundFile, isOnce, blockWith, indexOf, numberIn, numberAt, isWhole}
-use Rattle.places.specs.Once.{Placed, placed-exactly, place-is, every-of}
+use Rattle.places.specs.Once.{Placed, placed-exactly, place-is, every-at, every-of}
 use Rattle.places.specs.Heads.{headAt, index-head, setup-head}
 use Rattle.places.specs.Order.{placed-in-order}
 use Rattle.places.specs.ByHead.{target-heads, record-heads, ring-head, head-once, with-number}
 use Rattle.rows.specs.Rows.{rowWords, numbersIn}
 use Rattle.rows.specs.Asks.{partWords}
-use Rattle.rows.specs.Back.{F32s, numbers-are, rows-back}
+use Rattle.rows.specs.Back.{F32s, Blank, all-carried, numbers-are, rows-back}
+use Rattle.files.specs.File.{parkedTargets, parkedRecord}
 use Rattle.files.specs.Image.{Image, either, contentOf, blockAt, blocksOf, imageFile, Whole}
 
 -- ---- the blocks of a parked file
@@ -72,6 +74,19 @@ parked-with im w k l =
     ∙ place-is n (blocksIn (imageFile im)) (blocksOf im) pl k here)
     ∙ parked-piece im k l
 
+-- ---- z, which alone of a row is not carried (C-17)
+
+-- all numbers of a row are carried but its last, which has no bit set
+clear-blank : (C rows : ℕ) (xs : List Float) → isClear (C + 1) C rows xs ≡ true → Blank C (C + 1) xs (rows * (C + 1))
+unfolding isClear
+clear-blank C rows xs e i l h =
+    let some : 0 < C + 1 = omega arith in
+    let r : i / (C + 1) < rows = div-lt-iff-lt-mul {k = C + 1} {x = i} {y = rows} some .1 l in
+    let c : C ≡ i % (C + 1) = omega (arith, mod-lt i some) in
+    let z : bitsOf (getD xs (i / (C + 1) * (C + 1) + C) nan) ≡ 0
+    = eqb-true _ 0 (every-at (λ k. eqb (bitsOf (getD xs (k * (C + 1) + C) nan)) 0) rows (i / (C + 1)) e r) in
+    sym (ap (λ (k : ℕ). bitsOf (getD xs k nan)) (ap (λ (k : ℕ). i / (C + 1) * (C + 1) + k) c ∙ div-add-mod' i (C + 1))) ∙ z
+
 -- ---- the content of a block, by kind
 
 module _ (im : Image) where
@@ -81,41 +96,41 @@ module _ (im : Image) where
     where
       rest : List ℕ
       rest =
-          either (ltb k (2 + im .v)) (rowWords targetsWidth (im .targets) (k - 2) 0)
-          (either (ltb k (2 + im .v + im .s)) (rowWords recordWidth (im .records) (k - (2 + im .v)) 0)
-          (rowWords (im .L) (im .delay) ((k - (2 + im .v + im .s)) / im .p) ((k - (2 + im .v + im .s)) % im .p)))
+          either (ltb k (2 + im .v)) (rowWords parkedTargets targetsWidth (im .targets) (k - 2) 0)
+          (either (ltb k (2 + im .v + im .s)) (rowWords parkedRecord recordWidth (im .records) (k - (2 + im .v)) 0)
+          (rowWords (im .L) (im .L) (im .delay) ((k - (2 + im .v + im .s)) / im .p) ((k - (2 + im .v + im .s)) % im .p)))
 
-  pub target-content : (j : ℕ) → j < im .v * 1 → contentOf im (2 + j) ≡ partWords targetsWidth 1 (im .targets) j
+  pub target-content : (j : ℕ) → j < im .v * 1 → contentOf im (2 + j) ≡ partWords parkedTargets targetsWidth 1 (im .targets) j
   unfolding contentOf
   target-content j h =
       let k : ℕ = 2 + j in
       let e : k - 2 ≡ j / 1 = omega arith in
       let q : 0 ≡ j % 1 = omega arith in
       (λ i. either (le-ltb k 2 (omega arith) i) (piece 126 k (im .setup))
-      (either (lt-ltb k (2 + im .v) (omega arith) i) (rowWords targetsWidth (im .targets) (e i) (q i))
-      (either (ltb k (2 + im .v + im .s)) (rowWords recordWidth (im .records) (k - (2 + im .v)) 0)
-      (rowWords (im .L) (im .delay) ((k - (2 + im .v + im .s)) / im .p) ((k - (2 + im .v + im .s)) % im .p)))))
+      (either (lt-ltb k (2 + im .v) (omega arith) i) (rowWords parkedTargets targetsWidth (im .targets) (e i) (q i))
+      (either (ltb k (2 + im .v + im .s)) (rowWords parkedRecord recordWidth (im .records) (k - (2 + im .v)) 0)
+      (rowWords (im .L) (im .L) (im .delay) ((k - (2 + im .v + im .s)) / im .p) ((k - (2 + im .v + im .s)) % im .p)))))
 
-  pub record-content : (j : ℕ) → j < im .s * 1 → contentOf im (2 + im .v + j) ≡ partWords recordWidth 1 (im .records) j
+  pub record-content : (j : ℕ) → j < im .s * 1 → contentOf im (2 + im .v + j) ≡ partWords parkedRecord recordWidth 1 (im .records) j
   unfolding contentOf
   record-content j h =
       let k : ℕ = 2 + im .v + j in
       let e : k - (2 + im .v) ≡ j / 1 = omega arith in
       let q : 0 ≡ j % 1 = omega arith in
       (λ i. either (le-ltb k 2 (omega arith) i) (piece 126 k (im .setup))
-      (either (le-ltb k (2 + im .v) (omega arith) i) (rowWords targetsWidth (im .targets) (k - 2) 0)
-      (either (lt-ltb k (2 + im .v + im .s) (omega arith) i) (rowWords recordWidth (im .records) (e i) (q i))
-      (rowWords (im .L) (im .delay) ((k - (2 + im .v + im .s)) / im .p) ((k - (2 + im .v + im .s)) % im .p)))))
+      (either (le-ltb k (2 + im .v) (omega arith) i) (rowWords parkedTargets targetsWidth (im .targets) (k - 2) 0)
+      (either (lt-ltb k (2 + im .v + im .s) (omega arith) i) (rowWords parkedRecord recordWidth (im .records) (e i) (q i))
+      (rowWords (im .L) (im .L) (im .delay) ((k - (2 + im .v + im .s)) / im .p) ((k - (2 + im .v + im .s)) % im .p)))))
 
-  pub ring-content : (j : ℕ) → contentOf im (2 + im .v + im .s + j) ≡ partWords (im .L) (im .p) (im .delay) j
+  pub ring-content : (j : ℕ) → contentOf im (2 + im .v + im .s + j) ≡ partWords (im .L) (im .L) (im .p) (im .delay) j
   unfolding contentOf
   ring-content j =
       let k : ℕ = 2 + im .v + im .s + j in
       let e : k - (2 + im .v + im .s) ≡ j = omega arith in
       (λ i. either (le-ltb k 2 (omega arith) i) (piece 126 k (im .setup))
-      (either (le-ltb k (2 + im .v) (omega arith) i) (rowWords targetsWidth (im .targets) (k - 2) 0)
-      (either (le-ltb k (2 + im .v + im .s) (omega arith) i) (rowWords recordWidth (im .records) (k - (2 + im .v)) 0)
-      (rowWords (im .L) (im .delay) (e i / im .p) (e i % im .p)))))
+      (either (le-ltb k (2 + im .v) (omega arith) i) (rowWords parkedTargets targetsWidth (im .targets) (k - 2) 0)
+      (either (le-ltb k (2 + im .v + im .s) (omega arith) i) (rowWords parkedRecord recordWidth (im .records) (k - (2 + im .v)) 0)
+      (rowWords (im .L) (im .L) (im .delay) (e i / im .p) (e i % im .p)))))
 
   -- ---- the round trip
 
@@ -144,29 +159,34 @@ module _ (im : Image) where
         ∙ ap (λ (j : ℕ). getD (im .setup) j 0) (div-add-mod' i 126)
 
     -- a list whose blocks, of one kind, stand from block `first` on
-    list-back : (first kind L p rows : ℕ) (xs : List Float) → 0 < L → L ≤ p * 126 → length xs ≡ rows * L → F32s xs
+    list-back : (first kind C L p rows : ℕ) (xs : List Float) → 0 < L → L ≤ p * 126 → length xs ≡ rows * L → F32s xs → Blank C L xs (rows * L)
         → first + rows * p ≤ blocksOf im
         → ((j : ℕ) → j < rows * p → headAt (im .v) (im .s) (im .p) (first + j) ≡ headOf kind (j / p) (j % p))
-        → ((j : ℕ) → j < rows * p → contentOf im (first + j) ≡ partWords L p xs j)
-        → numbersIn F kind L (rows * L) ≡ xs
-    list-back first kind L p rows xs some hold len good fit head content =
-        numbers-are F kind L p some hold rows
-        ∙ rows-back L p xs some hold (λ j. blockWith F (headOf kind (j / p) (j % p))) (λ j. headOf kind (j / p) (j % p)) rows len good
-        (λ j l. block-with first j (headOf kind (j / p) (j % p)) (partWords L p xs j) (omega arith) (head j l) (content j l))
+        → ((j : ℕ) → j < rows * p → contentOf im (first + j) ≡ partWords C L p xs j)
+        → numbersIn F kind C L (rows * L) ≡ xs
+    list-back first kind C L p rows xs some hold len good blank fit head content =
+        numbers-are F kind C L p some hold rows
+        ∙ rows-back C L p xs some hold (λ j. blockWith F (headOf kind (j / p) (j % p))) (λ j. headOf kind (j / p) (j % p)) rows len good blank
+        (λ j l. block-with first j (headOf kind (j / p) (j % p)) (partWords C L p xs j) (omega arith) (head j l) (content j l))
 
-    pub targets-back : F32s (im .targets) → numbersIn F 2 targetsWidth (im .v * targetsWidth) ≡ im .targets
-    targets-back good =
-        list-back 2 2 targetsWidth 1 (im .v) (im .targets) (omega arith) (omega arith) (w .targets) good (omega arith)
+    pub targets-back : F32s (im .targets) → isClear targetsWidth targetZ (im .v) (im .targets) ≡ true
+        → numbersIn F 2 parkedTargets targetsWidth (im .v * targetsWidth) ≡ im .targets
+    targets-back good clear =
+        list-back 2 2 parkedTargets targetsWidth 1 (im .v) (im .targets) (omega arith) (omega arith) (w .targets) good
+        (clear-blank parkedTargets (im .v) (im .targets) clear) (omega arith)
         (target-heads (im .v) (im .s) (im .p)) target-content
 
-    pub records-back : F32s (im .records) → numbersIn F 3 recordWidth (im .s * recordWidth) ≡ im .records
-    records-back good =
-        list-back (2 + im .v) 3 recordWidth 1 (im .s) (im .records) (omega arith) (omega arith) (w .records) good (omega arith)
+    pub records-back : F32s (im .records) → isClear recordWidth recordZ (im .s) (im .records) ≡ true
+        → numbersIn F 3 parkedRecord recordWidth (im .s * recordWidth) ≡ im .records
+    records-back good clear =
+        list-back (2 + im .v) 3 parkedRecord recordWidth 1 (im .s) (im .records) (omega arith) (omega arith) (w .records) good
+        (clear-blank parkedRecord (im .s) (im .records) clear) (omega arith)
         (record-heads (im .v) (im .s) (im .p)) record-content
 
-    pub delay-back : F32s (im .delay) → numbersIn F 4 (im .L) (im .s * im .L) ≡ im .delay
+    pub delay-back : F32s (im .delay) → numbersIn F 4 (im .L) (im .L) (im .s * im .L) ≡ im .delay
     delay-back good =
-        list-back (2 + im .v + im .s) 4 (im .L) (im .p) (im .s) (im .delay) (w .some) (w .hold) (w .delay) good (omega arith)
+        list-back (2 + im .v + im .s) 4 (im .L) (im .L) (im .p) (im .s) (im .delay) (w .some) (w .hold) (w .delay) good
+        (all-carried (im .L) (im .delay) (im .s * im .L) (w .some)) (omega arith)
         (λ j l. ring-head (im .v) (im .s) (im .p) j) (λ j l. ring-content j)
 
     -- ---- so the reader's questions find nothing to refuse

@@ -4,6 +4,12 @@ ghost use lib.ListN.{length};
 ghost use Rattle.files.specs.Image.{imageFile};
 ghost use Rattle.files.specs.Asks.{imageOf, Room, Ready, Restored};
 use voices::RECORD_WIDTH;
+use voices::TARGETS_WIDTH;
+
+// Numbers of a row that kinds 2 and 3 carry: all but z.
+const CARRY_2: usize = 10;
+
+const CARRY_3: usize = 31;
 
 // Writes the whole file. `words` is room for the content of one block.
 pub fn park_file(
@@ -25,9 +31,10 @@ pub fn park_file(
 {
     blocks::put_block(out, 0, blocks::head_of(1, 0, 0), &setup[0..126]);
     blocks::put_block(out, 1, blocks::head_of(1, 0, 1), &setup[126..170]);
-    rows::put_rows(out, 2, 2, voices, 10, 1, targets, words);
-    rows::put_rows(out, 2 + voices, 3, slots, RECORD_WIDTH, 1, records, words);
-    rows::put_rows(out, 2 + voices + slots, 4, slots, len, parts, delay, words);
+    let at = 2 + voices;
+    rows::put_rows(out, 2, 2, voices, CARRY_2, TARGETS_WIDTH, 1, targets, words);
+    rows::put_rows(out, at, 3, slots, CARRY_3, RECORD_WIDTH, 1, records, words);
+    rows::put_rows(out, at + slots, 4, slots, len, len, parts, delay, words);
 }
 
 // Reads the lists of a file that the survey accepted.
@@ -45,7 +52,8 @@ pub fn restore_lists(
     requires { ⌜ Ready voices slots len parts (now file) (now pos) (length (now targets)) (length (now records)) (length (now delay)) ⌝ }
     ensures { λ _. ⌜ Restored voices slots len (now (file .entry)) (now (targets .exit)) (now (records .exit)) (now (delay .exit)) ⌝ }
 {
-    rows::get_rows(file, pos, 2, voices, 10, 1, targets);
-    rows::get_rows(file, pos, 2 + voices, slots, RECORD_WIDTH, 1, records);
-    rows::get_rows(file, pos, 2 + voices + slots, slots, len, parts, delay);
+    let at = 2 + voices;
+    rows::get_rows(file, pos, 2, voices, CARRY_2, TARGETS_WIDTH, 1, targets);
+    rows::get_rows(file, pos, at, slots, CARRY_3, RECORD_WIDTH, 1, records);
+    rows::get_rows(file, pos, at + slots, slots, len, len, parts, delay);
 }

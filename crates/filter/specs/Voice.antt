@@ -1,4 +1,4 @@
--- One voice's settings and the ten numbers that a bank smooths towards (mod.rs). Definitions only. Assumes nothing.
+-- One voice's settings and the eleven numbers that a bank smooths towards (mod.rs; document 02, C-17). Definitions only. Assumes nothing.
 use mathlib.Core.List.{List, [], _∷_, _++_}
 use mathlib.Core.Bool.{Bool, cond, _||_}
 use Prim.Native.Nat.{ℕ}
@@ -20,6 +20,7 @@ defaultParams =
       level = one;
       «morph_x» = zero;
       «morph_y» = zero;
+      «morph_z» = zero;
     }
 
 -- held to 0 .. 1 by Rust's clamp: a NaN stays NaN
@@ -67,12 +68,12 @@ morphOf v = cond (isNan v) zero (unitOrNan v)
 unfoldable pub morphTargetsOf : VoiceParams → List Float
 morphTargetsOf p = morphOf (p .«morph_x») ∷ morphOf (p .«morph_y») ∷ []
 
--- a voice's ten targets: 8 of targets_of, 2 of morph_targets_of
+-- a voice's eleven targets: 8 of targets_of, 2 of morph_targets_of, and z (C-17), treated as morph is
 unfoldable pub voiceTargets : VoiceParams → List Float
 unfolding targetsOf morphTargetsOf
-voiceTargets p = targetsOf p ++ morphTargetsOf p
+voiceTargets p = targetsOf p ++ morphTargetsOf p ++ morphOf (p .«morph_z») ∷ []
 
--- where each of the ten stands, in targets and in a record (mod.rs; MORPH_X and MORPH_Y of extended.rs stand after the eight)
+-- where each stands in targets (mod.rs; MORPH_X and MORPH_Y of extended.rs stand after the eight), all but z in a record too
 abbrev pub RES : ℕ
 RES = 0
 
@@ -102,6 +103,10 @@ abbrev pub «MORPH_X» : ℕ
 
 abbrev pub «MORPH_Y» : ℕ
 «MORPH_Y» = 9
+
+-- C-17: in targets; a record has its smoothed z at another place
+abbrev pub «MORPH_Z» : ℕ
+«MORPH_Z» = 10
 
 -- what refusal 8 names: a NaN resonance, drive, saturation, character or mix
 unfoldable pub nanKnob : VoiceParams → Bool

@@ -155,6 +155,7 @@ pub struct VoiceParams {
     pub level: f32,
     pub morph_x: f32,
     pub morph_y: f32,
+    pub morph_z: f32,
 }
 
 // Drive's gain into the clipper at full drive, in decibels.
@@ -166,7 +167,7 @@ const SATURATION_OCTAVES: f32 = 5.0;
 // The resonance saturator's knee at saturation 0.
 const SATURATION_KNEE: f32 = 3.0;
 
-// Resonance 10 %, no drive, saturation, character or offset, fully filtered, unity level, X and Y at 0.
+// Resonance 10 %, no drive, saturation, character or offset, fully filtered, unity level, X, Y and Z at 0.
 pub fn default_params() -> VoiceParams
     ensures { λ r. ⌜ r ≡ defaultParams ⌝ }
 {
@@ -180,6 +181,7 @@ pub fn default_params() -> VoiceParams
         level: 1.0,
         morph_x: 0.0,
         morph_y: 0.0,
+        morph_z: 0.0,
     }
 }
 
@@ -255,13 +257,26 @@ pub fn morph_targets_of(p: VoiceParams) -> [f32; 2]
     [morph(p.morph_x), morph(p.morph_y)]
 }
 
-// A voice's ten targets.
-pub fn voice_targets(p: VoiceParams) -> [f32; 10]
+// A voice's eleven targets.
+pub fn voice_targets(p: VoiceParams) -> [f32; 11]
     ensures { λ r. ⌜ r ≡ voiceTargets p ⌝ }
 {
     let t = targets_of(p);
     let m = morph_targets_of(p);
-    [t[0], t[1], t[2], t[3], t[4], t[5], t[6], t[7], m[0], m[1]]
+    let z = morph(p.morph_z);
+    [
+        t[0],
+        t[1],
+        t[2],
+        t[3],
+        t[4],
+        t[5],
+        t[6],
+        t[7],
+        m[0],
+        m[1],
+        z,
+    ]
 }
 
 // What refusal 8 names.

@@ -70,10 +70,10 @@ block-audio s q b r rs ds audio counts ok d =
 module _ (code rate : ℕ) (ds₀ pitch audio : List Float) (a : Accepted code rate (length audio)) (hd : length ds₀ ≡ ringLen (rateOf rate)) (hp : length pitch ≡ length audio) where
   open-lengths : Lengths (engine (impulseSetup code rate)) 1 (bankOf (silence targetsWidth) (silence recordWidth) ds₀ 0)
   unfolding impulseSetup
-  open-lengths = record { targets = silence-length 10; records = silence-length recordWidth; delay = omega arith }
+  open-lengths = record { targets = silence-length targetsWidth; records = silence-length recordWidth; delay = omega arith }
 
   pub rendering-is : (tg rs ds rs' ds' left : List Float) (over : List ℕ) (r r' : CodeAnswer) (s' : Setup)
-      → length tg ≡ 10 → length rs ≡ recordWidth → length ds ≡ length ds₀
+      → length tg ≡ targetsWidth → length rs ≡ recordWidth → length ds ≡ length ds₀
       → OpenDoes (impulseSetup code rate) (bankOf (silence targetsWidth) (silence recordWidth) ds₀ 0) r s' tg rs ds
       → BlockDoes (impulseSetup code rate) (blockFrom (length audio) pitch false [] [] audio (0 ∷ [])) (bankOf tg rs ds 0) r' rs' ds' left over
       → left ≡ renderedOf code rate ds₀ pitch audio

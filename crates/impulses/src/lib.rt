@@ -14,6 +14,7 @@ use checks::Setup;
 use text::Number;
 use text::Span;
 use voices::RECORD_WIDTH;
+use voices::TARGETS_WIDTH;
 
 // What reading a decimal of 1 to 9 digits answers.
 pub enum Decimal {
@@ -198,10 +199,10 @@ fn put_refused(out: &mut [u8], at: usize, n: u32) -> usize
 
 // ---- the voice
 
-fn silent_targets() -> [f32; 10]
-    ensures { λ r. ⌜ (r ≡ silence targetsWidth) × (length r ≡ 10) ⌝ }
+fn silent_targets() -> [f32; TARGETS_WIDTH]
+    ensures { λ r. ⌜ (r ≡ silence targetsWidth) × (length r ≡ targetsWidth) ⌝ }
 {
-    [0.0; 10]
+    [0.0; TARGETS_WIDTH]
 }
 
 fn silent_record() -> [f32; RECORD_WIDTH]

@@ -13,13 +13,14 @@ use Rattle.filter.specs.declared.Ratio.{Ratio}
 use Rattle.extended.specs.declared.Settings.{Settings}
 use Rattle.pole_zero.specs.declared.Table.{Table}
 use Rattle.poles.specs.declared.Series.{Series}
+use Rattle.poles.specs.Poles.{padOf}
 use Rattle.poles.specs.Numbers.{poleNumbers}
 use Rattle.kernels.specs.Kernels.{Kernel, kernelOf}
-use Rattle.kernels.specs.Tuning.{tuningOf, tunedOver, blendedOver, keyOf}
+use Rattle.kernels.specs.Tuning.{tuningOf, tunedOver, keptPad, blendedOver, keyOf}
 
 -- a table of its sections and the rest
 abbrev pub tableWith : Series → (sections : List Float) → Table
-tableWith s sections = record { active = s .active; sections = sections; gain = s .gain }
+tableWith s sections = record { active = s .active; three = s .three; sections = sections; gain = s .gain }
 
 -- ---- what is kept from frame to frame
 
@@ -30,12 +31,12 @@ Kept code reference t over =
     → (t ≡ tuningOf code (record { 0 = t ‼ 8 }) (keyOf reference (t ‼ 9)))
     × (over ≡ tunedOver code (record { 0 = t ‼ 8 }) (keyOf reference (t ‼ 9)) over)
 
--- PoleZero's: unless the list's pitch is NaN, they are those of its pitch, x and y
-unfoldable pub KeptSections : (code : ℕ) (sections : List Float) (active : ℕ) → Ratio → (blended : List Float) (over : ℕ) → Type 0
-KeptSections code sections active reference t over =
+-- PoleZero's: unless the list's pitch is NaN, they are those of its pitch, x, y and z
+unfoldable pub KeptSections : (code : ℕ) → Table → Ratio → (blended : List Float) (over : ℕ) → Type 0
+KeptSections code table reference t over =
     isNan (t ‼ 40) ≡ false
-    → (t ≡ poleNumbers sections active reference (record { 0 = t ‼ 40 }) (t ‼ 41) (t ‼ 42))
-    × (over ≡ blendedOver code sections active reference (record { 0 = t ‼ 40 }) (t ‼ 41) (t ‼ 42) over)
+    → (t ≡ poleNumbers (table .sections) (table .active) reference (record { 0 = t ‼ 40 }) (keptPad (table .three) t))
+    × (over ≡ blendedOver code table reference (record { 0 = t ‼ 40 }) (keptPad (table .three) t) over)
 
 -- a list's key is this one, and no NaN
 pub record TunedAt (t : List Float) (pitch character : Float) : Type 0 where
@@ -43,16 +44,17 @@ pub record TunedAt (t : List Float) (pitch character : Float) : Type 0 where
   pub pitch-is : t ‼ 8 ≡ pitch
   pub character-is : t ‼ 9 ≡ character
 
-pub record BlendedAt (t : List Float) (pitch x y : Float) : Type 0 where
+pub record BlendedAt (t : List Float) (pitch x y z : Float) : Type 0 where
   pub number : isNan (t ‼ 40) ≡ false
   pub pitch-is : t ‼ 40 ≡ pitch
   pub x-is : t ‼ 41 ≡ x
   pub y-is : t ‼ 42 ≡ y
+  pub z-is : t ‼ 43 ≡ z
 
 -- both lists are those of a pitch and settings; PoleZero alone reads the second
 pub record Tuned (code : ℕ) (table : Table) (pitch : Pitch) (p : Settings) (tuning blended : List Float) : Type 0 where
   pub numbers : tuning ≡ tuningOf code pitch p
-  pub sections : code ≡ 8 → blended ≡ poleNumbers (table .sections) (table .active) (p .«ref_over_rate») pitch (p .x) (p .y)
+  pub sections : code ≡ 8 → blended ≡ poleNumbers (table .sections) (table .active) (p .«ref_over_rate») pitch (padOf (table .three) p)
 
 -- ---- what a kernel leaves
 

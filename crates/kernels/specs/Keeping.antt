@@ -18,11 +18,12 @@ use Rattle.ladders.specs.Ladders.{transistorCoefficients, transistorWith, drive
 use Rattle.ladders.specs.Ladders.{diodeRows, acidCoefficients, acidWith, cleanLadderCoefficients, cleanLadderWith}
 use Rattle.expanders.specs.Expanders.{expanderCoefficients, expanderWith, multimodeWeights, k35Coefficients, k35With}
 use Rattle.combs.specs.Combs.{combCoefficients, combWith, combOver}
-use Rattle.poles.specs.Poles.{poleCoefficients, poleOver, poleStep}
+use Rattle.poles.specs.declared.Pad.{Pad}
+use Rattle.poles.specs.Poles.{padOf, numberAt, poleCoefficients, poleOver, poleStep}
 use Rattle.poles.specs.Numbers.{poleNumbers, sectionAt, numbers-step}
 use Rattle.kernels.specs.Tuning.{threeNumbers, djNumbers, rowNumbers, drivenNumbers, combNumbers, bandNumbers, multimodeNumbers}
 use Rattle.kernels.specs.Tuning.{k35Numbers, gainNumbers, numbersOf, tuningOf, tunedOver, rowsFrom, expanderFrom, weightsFrom, keyOf}
-use Rattle.kernels.specs.Tuning.{blendedOf, blendedOver}
+use Rattle.kernels.specs.Tuning.{blendedOf, blendedOver, keptPad}
 use Rattle.kernels.specs.Kernels.{overCount}
 use Rattle.kernels.specs.Contracts.{Kept, KeptSections}
 
@@ -87,6 +88,7 @@ withRatio p r =
       character = p .character;
       x = p .x;
       y = p .y;
+      z = p .z;
       «ref_over_rate» = p .«ref_over_rate»;
       «reference_ratio» = r;
     }
@@ -123,18 +125,14 @@ module _ (code : ℕ) (table : Table) (pitch : Pitch) (p key : Settings) (o o1 o
   abbrev reference : Ratio
   reference = p .«ref_over_rate»
 
-  abbrev sections : List Float
-  sections = table .sections
-
   -- it is the tick's
   pub over-is : tunedOver code pitch key o ≡ tunedOver code pitch p o
-      → o2 ≡ blendedOver code sections (table .active) reference pitch (p .x) (p .y) o1 → o2 ≡ overCount code table pitch p
+      → o2 ≡ blendedOver code table reference pitch (padOf (table .three) p) o1 → o2 ≡ overCount code table pitch p
   unfolding tunedOver blendedOver overCount
   over-is e e2 = counted _ _ o o1 o2 (eqb code 8) (e1 ∙ e) e2
 
   -- it stays right for the sections while the tuning is brought to a frame
-  pub sections-pass : (t : List Float)
-      → KeptSections code sections (table .active) reference t o → KeptSections code sections (table .active) reference t o1
+  pub sections-pass : (t : List Float) → KeptSections code table reference t o → KeptSections code table reference t o1
   unfolding KeptSections tunedOver blendedOver
   sections-pass t h n = (h n .0, passed _ _ o o1 o1 (eqb code 8) e1 (h n .1))
 
@@ -150,37 +148,42 @@ kept code reference pitch character t pole o o1 o2 e e1 e2 h = (
   again pole _ o o1 o2 (eqb code 8) e1 e2 ∙ (λ i. tunedOver code (record { 0 = sym e i ‼ 8 }) (keyOf reference (sym e i ‼ 9)) o2),
 )
 
-module _ (code : ℕ) (sections : List Float) (active : ℕ) (pitch : Pitch) (p : Settings) (before after : List Float)
-    (e : after ≡ blendedOf code sections active pitch p before) where
-  pub blended-at : code ≡ 8 → after ≡ poleNumbers sections active (p .«ref_over_rate») pitch (p .x) (p .y)
+module _ (code : ℕ) (table : Table) (pitch : Pitch) (p : Settings) (before after : List Float)
+    (e : after ≡ blendedOf code table pitch p before) where
+  abbrev numbers : Pitch → Pad → List Float
+  numbers = poleNumbers (table .sections) (table .active) (p .«ref_over_rate»)
+
+  abbrev over : Pitch → Pad → ℕ
+  over q d = poleOver (numberAt (table .sections) d) (table .active) (octavesOf q) (p .«ref_over_rate»)
+
+  pub blended-at : code ≡ 8 → after ≡ numbers pitch (padOf (table .three) p)
   unfolding blendedOf
-  blended-at k = e ∙ ap (λ (n : ℕ). cond (eqb n 8) (poleNumbers sections active (p .«ref_over_rate») pitch (p .x) (p .y)) before) k
+  blended-at k = e ∙ ap (λ (n : ℕ). cond (eqb n 8) (numbers pitch (padOf (table .three) p)) before) k
 
   -- the list t and the count o are those of the list's key
   abbrev Held : Bool → (t : List Float) (o : ℕ) → Type 0
   Held b t o =
       isNan (t ‼ 40) ≡ false
-      → (t ≡ poleNumbers sections active (p .«ref_over_rate») (record { 0 = t ‼ 40 }) (t ‼ 41) (t ‼ 42))
-      × (o ≡ cond b (poleOver sections active (t ‼ 41) (t ‼ 42) (octavesOf (record { 0 = t ‼ 40 })) (p .«ref_over_rate»)) o)
+      → (t ≡ numbers (record { 0 = t ‼ 40 }) (keptPad (table .three) t)) × (o ≡ cond b (over (record { 0 = t ‼ 40 }) (keptPad (table .three) t)) o)
 
-  held : (b : Bool) (o1 o2 : ℕ) → Held b before o1
-      → o2 ≡ cond b (poleOver sections active (p .x) (p .y) (octavesOf pitch) (p .«ref_over_rate»)) o1
-      → Held b (cond b (poleNumbers sections active (p .«ref_over_rate») pitch (p .x) (p .y)) before) o2
+  held : (b : Bool) (o1 o2 : ℕ) → Held b before o1 → o2 ≡ cond b (over pitch (padOf (table .three) p)) o1
+      → Held b (cond b (numbers pitch (padOf (table .three) p)) before) o2
   unfolding poleNumbers
   held true o1 o2 h e2 = λ n. (refl, e2)
   held false o1 o2 h e2 = λ n. (h n .0, refl)
 
-  pub blended-kept : (o1 o2 : ℕ) → KeptSections code sections active (p .«ref_over_rate») before o1
-      → o2 ≡ blendedOver code sections active (p .«ref_over_rate») pitch (p .x) (p .y) o1
-      → KeptSections code sections active (p .«ref_over_rate») after o2
+  pub blended-kept : (o1 o2 : ℕ) → KeptSections code table (p .«ref_over_rate») before o1
+      → o2 ≡ blendedOver code table (p .«ref_over_rate») pitch (padOf (table .three) p) o1
+      → KeptSections code table (p .«ref_over_rate») after o2
   unfolding KeptSections blendedOf blendedOver
   blended-kept o1 o2 h e2 = subst (λ (t : List Float). Held (eqb code 8) t o2) (sym e) (held (eqb code 8) o1 o2 h e2)
 
 -- a step on the kept numbers is a step on the sections
-pub sections-step : (sections : List Float) (active : ℕ) (gain : Float) (pitch : Pitch) (p : Settings) (t : List Float)
-    → t ≡ poleNumbers sections active (p .«ref_over_rate») pitch (p .x) (p .y) → (state : List Float) (v : Float)
-    → poleStep (sectionAt t) active gain state v ≡ poleStep (poleCoefficients sections pitch p) active gain state v
+pub sections-step : (table : Table) (pitch : Pitch) (p : Settings) (t : List Float)
+    → t ≡ poleNumbers (table .sections) (table .active) (p .«ref_over_rate») pitch (padOf (table .three) p) → (state : List Float) (v : Float)
+    → poleStep (sectionAt t) (table .active) (table .gain) state v
+    ≡ poleStep (poleCoefficients (table .three) (table .sections) pitch p) (table .active) (table .gain) state v
 unfolding poleCoefficients
-sections-step sections active gain pitch p t e state v =
-    ap (λ (n : List Float). poleStep (sectionAt n) active gain state v) e
-    ∙ numbers-step sections active (p .«ref_over_rate») pitch (p .x) (p .y) gain state v
+sections-step table pitch p t e state v =
+    ap (λ (n : List Float). poleStep (sectionAt n) (table .active) (table .gain) state v) e
+    ∙ numbers-step (table .sections) (table .active) (p .«ref_over_rate») pitch (padOf (table .three) p) (table .gain) state v

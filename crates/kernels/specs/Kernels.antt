@@ -1,4 +1,4 @@
--- The structure's kernel, chosen by its code (document 01, A bank is opened: the table of structure codes; document 02, C-11).
+-- The structure's kernel, chosen by its code (document 01, A bank is opened: the table of structure codes; document 02, C-11, C-17).
 -- Definitions only. Assumes nothing.
 use Prim.Native.Nat.{ℕ, _+_}
 use mathlib.Core.Bool.{cond}
@@ -14,7 +14,7 @@ use Rattle.sweeps.specs.Sweeps.{buzzCoefficients, buzzStep, djCoefficients, djO
 use Rattle.ladders.specs.Ladders.{transistorCoefficients, transistorStep, drivenCoefficients, drivenStep}
 use Rattle.ladders.specs.Ladders.{acidCoefficients, acidStep, cleanLadderCoefficients, cleanLadderStep}
 use Rattle.expanders.specs.Expanders.{expanderCoefficients, bandStep, multimodeWeights, multimodeStep, k35Coefficients, k35Step}
-use Rattle.poles.specs.Poles.{poleCoefficients, poleOver, poleStep}
+use Rattle.poles.specs.Poles.{padOf, numberAt, poleCoefficients, poleOver, poleStep}
 use Rattle.combs.specs.Combs.{Combed, combCoefficients, combOver, combStep}
 
 -- what a kernel leaves: its sample, its 20 states and its slot's ring
@@ -42,7 +42,7 @@ kernelOf code table len cursor pitch p state ring x =
     (cond (eqb code 5) (onStates ring (acidStep (acidCoefficients pitch p) state x))
     (cond (eqb code 6) (onStates ring (cleanLadderStep (cleanLadderCoefficients pitch p) state x))
     (cond (eqb code 7) (onStates ring (drivenStep (drivenCoefficients pitch p) state x))
-    (cond (eqb code 8) (onStates ring (poleStep (poleCoefficients (table .sections) pitch p) (table .active) (table .gain) state x))
+    (cond (eqb code 8) (onStates ring (poleStep (poleCoefficients (table .three) (table .sections) pitch p) (table .active) (table .gain) state x))
     (cond (eqb code 9) (onRing state (combStep (combCoefficients pitch p) len cursor ring x))
     (cond (eqb code 10) (onStates ring (multimodeStep (expanderCoefficients pitch p) (multimodeWeights (p .character)) state x))
     (cond (eqb code 11) (onStates ring (bandStep (expanderCoefficients pitch p) state x))
@@ -53,7 +53,7 @@ kernelOf code table len cursor pitch p state ring x =
 -- other kernel, which caps one ratio, once a tick; DjSweep's is that of its own cutoff
 unfoldable pub overCount : (code : ℕ) → Table → Pitch → Settings → ℕ
 overCount code table pitch p =
-    cond (eqb code 8) (poleOver (table .sections) (table .active) (p .x) (p .y) (octavesOf pitch) (p .«ref_over_rate»))
+    cond (eqb code 8) (poleOver (numberAt (table .sections) (padOf (table .three) p)) (table .active) (octavesOf pitch) (p .«ref_over_rate»))
     (cond (eqb code 9) (once (combOver pitch p) + once (combOver pitch p))
     (cond (eqb code 2) (once (djOver pitch p))
     (once (overOf pitch (p .«ref_over_rate»)))))

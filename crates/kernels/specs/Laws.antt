@@ -37,7 +37,7 @@ use Rattle.ladders.specs.Ladders.{transistorCoefficients, transistorStep, drive
 use Rattle.ladders.specs.Ladders.{acidCoefficients, acidStep, cleanLadderCoefficients, cleanLadderStep}
 use Rattle.expanders.specs.Expanders.{expanderCoefficients, bandStep, multimodeWeights, multimodeStep, k35Coefficients, k35Step}
 use Rattle.poles.specs.declared.PoleSection.{PoleSection}
-use Rattle.poles.specs.Poles.{term, blendOf, poleCoefficients, sectionOver, poleOver, poleStage, poleSeries, poleStep}
+use Rattle.poles.specs.Poles.{term, padOf, numberAt, poleCoefficients, sectionOver, poleOver, poleStage, poleSeries, poleStep}
 use Rattle.combs.specs.declared.Comb2.{Comb2}
 use Rattle.combs.specs.Combs.{combCoefficients, combOver, combStep}
 use Rattle.kernels.specs.Kernels.{Kernel, onStates, kernelOf, overCount}
@@ -136,7 +136,7 @@ module _ (code : ℕ) (table : Table) (len cursor : ℕ) (pitch : Pitch) (p : Se
       (one-of 5 (acidStep _ state x) (acid-length state x (acidCoefficients pitch p)) _
       (one-of 6 (cleanLadderStep _ state x) (clean-length state x (cleanLadderCoefficients pitch p)) _
       (one-of 7 (drivenStep _ state x) (driven-length state x (drivenCoefficients pitch p)) _
-      (one-of 8 (poleStep _ _ _ state x) (pole-length state x (poleCoefficients (table .sections) pitch p) (table .active) (table .gain)) _
+      (one-of 8 (poleStep _ _ _ state x) (pole-length state x (poleCoefficients (table .three) (table .sections) pitch p) (table .active) (table .gain)) _
       (either state ring (eqb code 9) _ _ (record { states = refl; cells = comb-length (combCoefficients pitch p) len cursor ring x })
       (one-of 10 (multimodeStep _ _ state x) (multimode-length state x (expanderCoefficients pitch p) (multimodeWeights (p .character))) _
       (one-of 11 (bandStep _ state x) (band-length state x (expanderCoefficients pitch p)) _
@@ -158,9 +158,10 @@ over-most code table pitch p =
     let comb = once-most (combOver pitch p) in
     let sweep = once-most (djOver pitch p) in
     let other = once-most (overOf pitch (p .«ref_over_rate»)) in
+    let at : ℕ → Float = numberAt (table .sections) (padOf (table .three) p) in
     let poles = sections-most
-    (λ j. once (overAt (octavesOf pitch ⊕ blendOf (table .sections) (term j 0) (p .x) (p .y)) (p .«ref_over_rate»)))
-    (λ j. once-most (overAt (octavesOf pitch ⊕ blendOf (table .sections) (term j 0) (p .x) (p .y)) (p .«ref_over_rate»)))
+    (λ j. once (overAt (octavesOf pitch ⊕ at (term j 0)) (p .«ref_over_rate»)))
+    (λ j. once-most (overAt (octavesOf pitch ⊕ at (term j 0)) (p .«ref_over_rate»)))
     (min (table .active) 8) in
     at-most (eqb code 8) _ _ (omega (arith, poles))
     (at-most (eqb code 9) _ _ (omega (arith, comb)) (at-most (eqb code 2) _ _ (omega (arith, sweep)) (omega (arith, other))))

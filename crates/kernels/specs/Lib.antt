@@ -4,3 +4,4 @@ pub mod Tuning
 pub mod Contracts
 pub mod Laws
 pub mod Keeping
+pub mod Heard

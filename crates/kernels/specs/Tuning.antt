@@ -1,10 +1,10 @@
 -- For the proofs: nothing here must be believed.
 -- What a kernel has of the pitch and the character alone, kept from frame to frame: a list of ten numbers, of which the last two
--- are the pitch and the character that the first eight follow from. PoleZero has a list of its own, of the pitch, x and y. With them is
+-- are the pitch and the character that the first eight follow from. PoleZero has a list of its own, of the pitch, x, y and z. With them is
 -- kept how often a tick at those numbers judges a ratio greater than its cap.
 -- Definitions only. Assumes nothing.
 use Prim.Native.Nat.{ℕ, _+_}
-use mathlib.Core.Bool.{cond}
+use mathlib.Core.Bool.{Bool, cond}
 use mathlib.Core.List.{List, _∷_, []}
 use lib.Dec.{eqb}
 use lib.Ieee.{Float}
@@ -13,6 +13,7 @@ use Rattle.filter.specs.declared.Pitch.{Pitch}
 use Rattle.filter.specs.declared.Ratio.{Ratio}
 use Rattle.filter.specs.Filter.{octavesOf, gainOf, overOf, once}
 use Rattle.extended.specs.declared.Settings.{Settings}
+use Rattle.pole_zero.specs.declared.Table.{Table}
 use Rattle.sweeps.specs.declared.DjSweep.{DjSweep}
 use Rattle.sweeps.specs.Sweeps.{djCoefficients, djOver}
 use Rattle.stages.specs.declared.Five.{Five}
@@ -24,7 +25,8 @@ use Rattle.expanders.specs.declared.K35.{K35}
 use Rattle.expanders.specs.Expanders.{expanderCoefficients, multimodeWeights, k35Coefficients, expanderWith}
 use Rattle.combs.specs.declared.Comb2.{Comb2}
 use Rattle.combs.specs.Combs.{combCoefficients, combOver}
-use Rattle.poles.specs.Poles.{poleOver}
+use Rattle.poles.specs.declared.Pad.{Pad}
+use Rattle.poles.specs.Poles.{padOf, numberAt, poleOver}
 use Rattle.poles.specs.Numbers.{poleNumbers}
 use Rattle.kernels.specs.declared.tuning.Numbers.{Numbers}
 
@@ -105,13 +107,20 @@ keyOf reference character =
       character = character;
       x = zero;
       y = zero;
+      z = zero;
       «ref_over_rate» = reference;
       «reference_ratio» = reference;
     }
 
 -- PoleZero's list at a pitch and settings; any other structure leaves it as it was
-unfoldable pub blendedOf : (code : ℕ) (sections : List Float) (active : ℕ) → Pitch → Settings → List Float → List Float
-blendedOf code sections active pitch p t = cond (eqb code 8) (poleNumbers sections active (p .«ref_over_rate») pitch (p .x) (p .y)) t
+unfoldable pub blendedOf : (code : ℕ) → Table → Pitch → Settings → List Float → List Float
+blendedOf code table pitch p t =
+    cond (eqb code 8) (poleNumbers (table .sections) (table .active) (p .«ref_over_rate») pitch (padOf (table .three) p)) t
 
-unfoldable pub blendedOver : (code : ℕ) (sections : List Float) (active : ℕ) → Ratio → Pitch → (x y : Float) → (before : ℕ) → ℕ
-blendedOver code sections active reference pitch x y before = cond (eqb code 8) (poleOver sections active x y (octavesOf pitch) reference) before
+unfoldable pub blendedOver : (code : ℕ) → Table → Ratio → Pitch → Pad → (before : ℕ) → ℕ
+blendedOver code table reference pitch d before =
+    cond (eqb code 8) (poleOver (numberAt (table .sections) d) (table .active) (octavesOf pitch) reference) before
+
+-- the x, y and z that such a list is of
+abbrev pub keptPad : (three : Bool) → List Float → Pad
+keptPad three t = record { three = three; x = t ‼ 41; y = t ‼ 42; z = t ‼ 43 }

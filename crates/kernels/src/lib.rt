@@ -42,13 +42,13 @@ fn weights_of(tuning: &[f32; 10]) -> Five
 }
 
 // One tick of the structure `code`. `tuning` holds the numbers kept at this pitch and character, `blended`
-// PoleZero's at this pitch, X and Y.
+// PoleZero's at this pitch, X, Y and Z.
 pub fn kernel(
     code: u32,
-    sections: &[f32; 160],
+    sections: &[f32; 320],
     series: Series,
     tuning: &[f32; 10],
-    blended: &[f32; 43],
+    blended: &[f32; 44],
     state: &mut [f32; 20],
     delay: &mut [f32],
     at: Ring,

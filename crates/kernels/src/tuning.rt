@@ -1,4 +1,4 @@
-// What a kernel has of the pitch and the character alone, or PoleZero of the pitch, X and Y, kept from frame to frame and worked out
+// What a kernel has of the pitch and the character alone, or PoleZero of the pitch, X, Y and Z, kept from frame to frame and worked out
 // again when one of them changes.
 ghost use mathlib.Core.Path.{_≡_};
 ghost use mathlib.Core.Bool.{true, false};
@@ -10,7 +10,8 @@ ghost use Rattle.combs.specs.Combs.{combCoefficients, combOver};
 ghost use Rattle.kernels.specs.Tuning.{threeNumbers, djNumbers, rowNumbers, drivenNumbers, combNumbers, bandNumbers};
 ghost use Rattle.kernels.specs.Tuning.{multimodeNumbers, k35Numbers, gainNumbers, numbersOf, tuningOf, tunedOver, keyOf};
 ghost use Rattle.kernels.specs.Tuning.{blendedOf, blendedOver};
-ghost use Rattle.kernels.specs.Contracts.{Kept, KeptSections, TunedAt, BlendedAt};
+ghost use Rattle.poles.specs.Poles.{padOf};
+ghost use Rattle.kernels.specs.Contracts.{tableWith, Kept, KeptSections, TunedAt, BlendedAt};
 use combs::Comb2;
 use expanders::Expander;
 use expanders::K35;
@@ -19,6 +20,7 @@ use filter::Pitch;
 use filter::Ratio;
 use ladders::DrivenLadder;
 use ladders::Rows;
+use poles::Series;
 use stages::Five;
 use sweeps::DjSweep;
 
@@ -220,6 +222,7 @@ pub fn retune(
             character: character,
             x: 0.0,
             y: 0.0,
+            z: 0.0,
             ref_over_rate: reference,
             reference_ratio: reference,
         },
@@ -230,39 +233,42 @@ pub fn retune(
     *over = next.over;
 }
 
-// Whether the kept numbers of the sections are those of this pitch, X and Y.
-fn is_blended(blended: &[f32; 43], pitch: f32, x: f32, y: f32) -> bool
-    ensures { λ r. ⌜ (r ≡ true → BlendedAt (now (blended .entry)) pitch x y) ⌝ }
+// Whether the kept numbers of the sections are those of this pitch, X, Y and Z.
+fn is_blended(blended: &[f32; 44], pitch: f32, x: f32, y: f32, z: f32) -> bool
+    ensures { λ r. ⌜ (r ≡ true → BlendedAt (now (blended .entry)) pitch x y z) ⌝ }
 {
     if same(blended[40], pitch) {
         if same(blended[41], x) {
-            return same(blended[42], y);
+            if same(blended[42], y) {
+                return same(blended[43], z);
+            }
         }
     }
     false
 }
 
-// Brings the sections' kept numbers and count to this pitch, X and Y. Only PoleZero (code 8) has sections.
+// Brings the sections' kept numbers and count to this pitch, X, Y and Z. Only PoleZero (code 8) has sections.
 pub fn blend_sections(
     code: u32,
-    blended: &mut [f32; 43],
+    blended: &mut [f32; 44],
     over: &mut u32,
-    sections: &[f32; 160],
-    active: u32,
+    sections: &[f32; 320],
+    series: Series,
     pitch: Pitch,
     p: Settings,
 )
-    requires { ⌜ KeptSections code (now sections) active (p .«ref_over_rate») (now blended) (now over) ⌝ }
-    ensures { λ _. ⌜ (now (blended .exit) ≡ blendedOf code (now (sections .entry)) active pitch p (now (blended .entry)))
-        × (now (over .exit) ≡ blendedOver code (now (sections .entry)) active (p .«ref_over_rate») pitch (p .x) (p .y) (now (over .entry))) ⌝ }
+    requires { ⌜ KeptSections code (tableWith series (now sections)) (p .«ref_over_rate») (now blended) (now over) ⌝ }
+    ensures { λ _. ⌜ (now (blended .exit) ≡ blendedOf code (tableWith series (now (sections .entry))) pitch p (now (blended .entry)))
+        × (now (over .exit) ≡ blendedOver code (tableWith series (now (sections .entry))) (p .«ref_over_rate») pitch (padOf (series .three) p)
+        (now (over .entry))) ⌝ }
 {
     if code != 8 {
         return;
     }
-    if is_blended(blended, pitch.0, p.x, p.y) {
+    if is_blended(blended, pitch.0, p.x, p.y, p.z) {
         return;
     }
-    let next = poles::pole_numbers(sections, active, pitch, p);
+    let next = poles::pole_numbers(sections, series, pitch, p);
     let numbers = next.numbers;
     *blended = numbers;
     *over = next.over;

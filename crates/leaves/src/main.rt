@@ -1,6 +1,7 @@
 // Replays rows `name inputs = answer` on the proved functions: writes each row again with the answer computed, so that the
 // output is the input where every answer is right, bit for bit. A line that starts with `#` is copied; a row that cannot be
 // read gives `?`.
+ghost use Prim.Native.Nat.{_≤_};
 use filter::Pitch;
 use filter::Ratio;
 use filter::VoiceParams;
@@ -127,23 +128,36 @@ fn state_at(s: &[u8], at: usize) -> StateRead {
     }
 }
 
-// The gain and four states from the word at `at` on.
-fn design_at(s: &[u8], at: usize) -> DesignRead {
-    let a = state_at(s, words::start(s, at, 1));
-    let b = state_at(s, a.next);
-    let c = state_at(s, b.next);
-    let d = state_at(s, c.next);
-    let sa = a.state;
-    let sb = b.state;
-    let sc = c.state;
-    let sd = d.state;
+// How many states a design has: those at z = 0, and those at z = 1 where it has three axes.
+fn states_of(three: bool) -> usize
+    ensures { λ r. ⌜ r ≤ 8 ⌝ }
+{
+    if three { 8 } else { 4 }
+}
+
+// The gain and the states from the word at `at` on; with two axes the states at z = 1 are the default's.
+fn design_at(s: &[u8], at: usize, three: bool) -> DesignRead {
+    let mut states = [State::default(); 8];
+    let mut next = words::start(s, at, 1);
+    let mut ok = words::are_floats(s, at, 0, 1);
+    let n = states_of(three);
+    let mut i = 0;
+    while i < n {
+        let r = state_at(s, next);
+        let state = r.state;
+        states[i] = state;
+        next = r.next;
+        ok = ok & r.ok;
+        i += 1;
+    }
     DesignRead {
         design: PoleZeroDesign {
-            states: [sa, sb, sc, sd],
+            states: states,
+            three: three,
             gain_db: words::float_at(s, at, 0),
         },
-        next: d.next,
-        ok: words::are_floats(s, at, 0, 1) & a.ok & b.ok & c.ok & d.ok,
+        next: next,
+        ok: ok,
     }
 }
 
@@ -152,13 +166,13 @@ fn inputs(name: usize) -> usize {
     match name {
         0 | 1 | 8 | 10 | 11 | 15 => 2,
         9 | 12 => 5,
-        13 => 9,
+        13 => 10,
         _ => 1,
     }
 }
 
-// The nine numbers from the word at `at` on.
-fn nine(s: &[u8], at: usize) -> [f32; 9] {
+// The ten numbers from the word at `at` on.
+fn ten(s: &[u8], at: usize) -> [f32; 10] {
     [
         words::float_at(s, at, 0),
         words::float_at(s, at, 1),
@@ -169,11 +183,12 @@ fn nine(s: &[u8], at: usize) -> [f32; 9] {
         words::float_at(s, at, 6),
         words::float_at(s, at, 7),
         words::float_at(s, at, 8),
+        words::float_at(s, at, 9),
     ]
 }
 
 // The functions with one number as their answer.
-fn value_of(name: usize, x: [f32; 9]) -> f32 {
+fn value_of(name: usize, x: [f32; 10]) -> f32 {
     let a = x[0];
     let b = x[1];
     match name {
@@ -192,17 +207,17 @@ fn value_of(name: usize, x: [f32; 9]) -> f32 {
     }
 }
 
-fn svf_of(x: [f32; 9]) -> [f32; 4] {
+fn svf_of(x: [f32; 10]) -> [f32; 4] {
     let v = filter::svf(x[0], x[1], x[2], x[3], x[4]);
     [v.band, v.low, v.ic1, v.ic2]
 }
 
-fn put_svf(out: &mut [u8], at: usize, x: [f32; 9]) -> usize {
+fn put_svf(out: &mut [u8], at: usize, x: [f32; 10]) -> usize {
     let v = svf_of(x);
     put_floats(out, at, &v)
 }
 
-fn params_of(x: [f32; 9]) -> VoiceParams {
+fn params_of(x: [f32; 10]) -> VoiceParams {
     VoiceParams {
         resonance: x[0],
         drive: x[1],
@@ -213,21 +228,22 @@ fn params_of(x: [f32; 9]) -> VoiceParams {
         level: x[6],
         morph_x: x[7],
         morph_y: x[8],
+        morph_z: x[9],
     }
 }
 
-fn put_targets(out: &mut [u8], at: usize, x: [f32; 9]) -> usize {
+fn put_targets(out: &mut [u8], at: usize, x: [f32; 10]) -> usize {
     let t = filter::voice_targets(params_of(x));
     put_floats(out, at, &t)
 }
 
 // Whether the ratio of a pitch was greater than its cap, as 1 or 0.
-fn over_of(x: [f32; 9]) -> u64 {
+fn over_of(x: [f32; 10]) -> u64 {
     filter::once(filter::over_of(Pitch(x[0]), Ratio(x[1]))) as u64
 }
 
 // The rows of names 0 to 15.
-fn float_row(out: &mut [u8], at: usize, name: usize, x: [f32; 9]) -> usize {
+fn float_row(out: &mut [u8], at: usize, name: usize, x: [f32; 10]) -> usize {
     match name {
         12 => put_svf(out, at, x),
         13 => put_targets(out, at, x),
@@ -248,9 +264,9 @@ fn point_row(s: &[u8], end: usize, out: &mut [u8], at: usize) -> usize {
     0
 }
 
-// `table` DESIGN
-fn table_row(s: &[u8], end: usize, out: &mut [u8], at: usize) -> usize {
-    let r = design_at(s, words::start(s, 0, 1));
+// `table` DESIGN, or `table8` DESIGN8
+fn table_row(s: &[u8], end: usize, three: bool, out: &mut [u8], at: usize) -> usize {
+    let r = design_at(s, words::start(s, 0, 1), three);
     if r.ok & (r.next == end) {
         let d = r.design;
         return put_table(out, at, Table::of(d));
@@ -258,21 +274,36 @@ fn table_row(s: &[u8], end: usize, out: &mut [u8], at: usize) -> usize {
     0
 }
 
+// Writes the first n numbers' bits in runs.
+fn put_first(out: &mut [u8], at: usize, xs: &[f32], n: usize) -> usize {
+    if n <= xs.len() {
+        return words::put_runs(out, at, &xs[0..n]);
+    }
+    at
+}
+
+// Of a table with two axes the numbers at z = 1 are left out.
 fn put_table(out: &mut [u8], at: usize, t: Table) -> usize {
     let p = text::put_decimal(out, at, t.active as u64);
     let p = text::put_byte(out, p, b' ');
     let p = words::put_value(out, p, t.gain);
     let v = t.sections;
-    words::put_runs(out, p, &v)
+    let n = if t.three { 320 } else { 160 };
+    put_first(out, p, &v, n)
 }
 
-// `section` point x y DESIGN
-fn section_row(s: &[u8], end: usize, out: &mut [u8], at: usize) -> usize {
-    let r = design_at(s, words::start(s, 0, 4));
-    if r.ok & (r.next == end) & words::are_decimals(s, 0, 1, 1) & words::are_floats(s, 0, 2, 2) {
+// `section` point x y z DESIGN, or `section8` point x y z DESIGN8
+fn section_row(s: &[u8], end: usize, three: bool, out: &mut [u8], at: usize) -> usize {
+    let r = design_at(s, words::start(s, 0, 5), three);
+    if r.ok & (r.next == end) & words::are_decimals(s, 0, 1, 1) & words::are_floats(s, 0, 2, 3) {
         let d = r.design;
         let p = words::decimal_at(s, 0, 1, 0) as usize;
-        let a = d.section(p, words::float_at(s, 0, 2), words::float_at(s, 0, 3));
+        let a = d.section(
+            p,
+            words::float_at(s, 0, 2),
+            words::float_at(s, 0, 3),
+            words::float_at(s, 0, 4),
+        );
         return put_answer(out, at, a);
     }
     0
@@ -314,31 +345,41 @@ fn floats_row(s: &[u8], end: usize, name: usize, out: &mut [u8], at: usize) -> u
     let first = words::start(s, 0, 1);
     let n = inputs(name);
     if (words::start(s, first, n) == end) & words::are_floats(s, first, 0, n) {
-        return float_row(out, at, name, nine(s, first));
+        return float_row(out, at, name, ten(s, first));
     }
     0
 }
 
-// Writes the answer of the row whose `=` is at `end`, and answers the position after it; 0 where the row cannot be read.
-fn answer(s: &[u8], end: usize, name: usize, cells: &[f32], out: &mut [u8], at: usize) -> usize {
-    match name {
-        0..=15 => floats_row(s, end, name, out, at),
-        16 => point_row(s, end, out, at),
-        17 => table_row(s, end, out, at),
-        18 => section_row(s, end, out, at),
-        19 => read_row(s, end, cells, out, at),
+// The rows of other names.
+fn other_row(s: &[u8], end: usize, cells: &[f32], out: &mut [u8], at: usize) -> usize {
+    match words::name_at(b"point table table8 section section8 read", 6, s, 0) {
+        0 => point_row(s, end, out, at),
+        1 => table_row(s, end, false, out, at),
+        2 => table_row(s, end, true, out, at),
+        3 => section_row(s, end, false, out, at),
+        4 => section_row(s, end, true, out, at),
+        5 => read_row(s, end, cells, out, at),
         _ => 0,
     }
 }
 
-// The place of the row's name; 20 where it has none.
+// The place of the row's name among those that take f32 alone; 16 where it is none of them.
 fn name_of(s: &[u8]) -> usize {
     words::name_at(
-        b"max min exp2 tan soft_clip sqrt log2 asym saturation_gain hermite ratio_of gain svf targets_of ring_len over point table section read",
-        20,
+        b"max min exp2 tan soft_clip sqrt log2 asym saturation_gain hermite ratio_of gain svf targets_of ring_len over",
+        16,
         s,
         0,
     )
+}
+
+// Writes the answer of the row whose `=` is at `end`, and answers the position after it; 0 where the row cannot be read.
+fn answer(s: &[u8], end: usize, cells: &[f32], out: &mut [u8], at: usize) -> usize {
+    let name = name_of(s);
+    if name < 16 {
+        return floats_row(s, end, name, out, at);
+    }
+    other_row(s, end, cells, out, at)
 }
 
 // The row again: up to `= ` as it stands, then the answer.
@@ -351,7 +392,7 @@ fn row(s: &[u8], cells: &[f32], out: &mut [u8]) -> usize {
         return 0;
     }
     let at = text::put_bytes(out, 0, &s[0..eq + 2]);
-    answer(s, eq, name_of(s), cells, out, at)
+    answer(s, eq, cells, out, at)
 }
 
 // Whether the line is neither empty nor to be copied.

@@ -13,6 +13,7 @@ use Rattle.voices.specs.Accepted.{check-fine, then-fine, OpenAccepted, open-acc
 use Rattle.blocks.specs.Blocks.{partsOf, total}
 use Rattle.places.specs.Places.{placeOf, blocksIn, numberAt, isWhole}
 use Rattle.rows.specs.Rows.{numbersIn}
+use Rattle.files.specs.File.{parkedTargets, parkedRecord}
 use Rattle.rows.specs.Back.{parts-hold}
 use Rattle.files.specs.Asks.{Ready, Restored}
 use Rattle.setups.specs.Setup.{setupCheckOf}
@@ -128,8 +129,8 @@ module _ (file pos : List ℕ) (h : Held) (f : FileRead file pos h) (tg rs ds : 
                 ∙ ap (λ (x : Check). restoredBy x file lent) (sym w);
           }
         where
-          sizes : bankOf (numbersIn file 2 targetsWidth (v * targetsWidth)) (numbersIn file 3 recordWidth (s * recordWidth)) (numbersIn file 4 len (s * len)) (cursorIn file)
-              ≡ bankOf (numbersIn file 2 targetsWidth (voicesIn file * targetsWidth)) (numbersIn file 3 recordWidth (slotsIn file * recordWidth)) (numbersIn file 4 (ringIn file) (slotsIn file * ringIn file)) (cursorIn file)
+          sizes : bankOf (numbersIn file 2 parkedTargets targetsWidth (v * targetsWidth)) (numbersIn file 3 parkedRecord recordWidth (s * recordWidth)) (numbersIn file 4 len len (s * len)) (cursorIn file)
+              ≡ bankOf (numbersIn file 2 parkedTargets targetsWidth (voicesIn file * targetsWidth)) (numbersIn file 3 parkedRecord recordWidth (slotsIn file * recordWidth)) (numbersIn file 4 (ringIn file) (ringIn file) (slotsIn file * ringIn file)) (cursorIn file)
           sizes = as-read (λ a c d.
-              bankOf (numbersIn file 2 targetsWidth (a * targetsWidth)) (numbersIn file 3 recordWidth (c * recordWidth)) (numbersIn file 4 d (c * d)) (cursorIn file)
-              ≡ bankOf (numbersIn file 2 targetsWidth (voicesIn file * targetsWidth)) (numbersIn file 3 recordWidth (slotsIn file * recordWidth)) (numbersIn file 4 (ringIn file) (slotsIn file * ringIn file)) (cursorIn file)) refl
+              bankOf (numbersIn file 2 parkedTargets targetsWidth (a * targetsWidth)) (numbersIn file 3 parkedRecord recordWidth (c * recordWidth)) (numbersIn file 4 d d (c * d)) (cursorIn file)
+              ≡ bankOf (numbersIn file 2 parkedTargets targetsWidth (voicesIn file * targetsWidth)) (numbersIn file 3 parkedRecord recordWidth (slotsIn file * recordWidth)) (numbersIn file 4 (ringIn file) (ringIn file) (slotsIn file * ringIn file)) (cursorIn file)) refl

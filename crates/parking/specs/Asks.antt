@@ -1,13 +1,13 @@
 -- For the proofs: nothing here must be believed.
 -- What the functions of parking ask and promise each other. Definitions only.
 use mathlib.Core.Path.{_≡_}
-use mathlib.Core.Bool.{true}
-use mathlib.Core.List.{List}
+use mathlib.Core.Bool.{true, false}
+use mathlib.Core.List.{List, _++_}
 use Prim.Native.Nat.{ℕ, suc, _+_, _-_, _<_}
 use lib.Dec.{ltb, leb}
-use lib.ListN.{length, getD}
+use lib.ListN.{length, getD, replicate}
 use lib.Ieee.{Float}
-use Rattle.lane.specs.Floats.{_‼_}
+use Rattle.lane.specs.Floats.{_‼_, zero}
 use Rattle.parts.specs.Parts.{tab}
 use Rattle.text.specs.Text.{bitsOf}
 use Rattle.voices.specs.Calls.{Check, fine, check, _then_}
@@ -35,10 +35,10 @@ pub record SetupAt (file : List ℕ) (a b : ℕ) : Type 0 where
   pub second : b ≡ placeOf (headIn file) (headOf 1 0 1) (blocksIn file)
 
 unfoldable pub sectionsIn : List ℕ → List Float
-sectionsIn file = tab (λ i. floatOf (setupWord file (9 + i))) 160
+sectionsIn file = tab (λ i. floatOf (setupWord file (9 + i))) 160 ++ replicate 160 zero
 
 unfoldable pub tableIn : List ℕ → Table
-tableIn file = record { active = setupWord file 8; sections = sectionsIn file; gain = floatOf (setupWord file 169) }
+tableIn file = record { active = setupWord file 8; three = false; sections = sectionsIn file; gain = floatOf (setupWord file 169) }
 
 -- the checks from the clean word to 5, and those up to 5
 unfoldable pub setupVerdict : List ℕ → Check

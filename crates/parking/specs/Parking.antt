@@ -1,4 +1,4 @@
--- What park, restore and their companions promise (document 02, C-12), over the file of setups/specs/Parked. Definitions only.
+-- What park, restore and their companions promise (document 02, C-12, C-17), over the file of setups/specs/Parked. Definitions only.
 use mathlib.Core.Path.{_≡_}
 use mathlib.Core.Bool.{false}
 use mathlib.Core.List.{List, []}
@@ -64,7 +64,7 @@ blankSetup = record {
   voices = 0;
   channels = 0;
   clean = false;
-  table = record { active = 0; sections = replicate 160 zero; gain = zero };
+  table = record { active = 0; three = false; sections = replicate 320 zero; gain = zero };
 }
 
 -- the answer: setup and cursor, or the refusal's number

@@ -1,4 +1,4 @@
--- What follows from the contracts of park and restore alone (document 02, C-12): the round trip, blocks in any order, and what demand 3 asks of a restore
+-- What follows from the contracts of park and restore alone (document 02, C-12, C-17): the round trip, blocks in any order, and what demand 3 asks of a restore
 -- in a list of calls. The statements, then their proofs from setups/specs/Back and AnyOrder. Assumes nothing.
 use mathlib.Core.Path.{_≡_, refl, sym, ap, _∙_}
 use mathlib.Core.List.{List, _∷_}
@@ -7,9 +7,11 @@ use lib.Ieee.{Float}
 use Rattle.lines.specs.Lines.{ringLen}
 use Rattle.voices.specs.Calls.{Check, fine, refused, _then_, Bank, Run, refusedCall, kept, callRestore, storeCheck, storeCheckOf, perform, call, Returned}
 use Rattle.places.specs.ByHead.{Shuffled}
+use Rattle.setups.specs.Setup.{heardTable, heard}
 use Rattle.setups.specs.Parked.{soloIn, voicesIn, cursorIn, bankIn, restoreVerdict}
 use Rattle.setups.specs.Parked.{Holds}
 use Rattle.setups.specs.AnyOrder.{any-order}
+use Rattle.slots.specs.Heard.{heard-engine}
 use Rattle.checks.specs.declared.Setup.{Setup}
 use Rattle.checks.specs.declared.Verdict.{Verdict}
 use Rattle.checks.specs.declared.Verdict.the-variants.{Fine, Refused}
@@ -21,14 +23,27 @@ use Rattle.parking.specs.Parking.{parkVerdict, ParkDoes, setupIn, heldBy
 
 -- ---- the round trip
 
--- the setup s and the bank b, from restore's answer and lists
-pub record SameBank (s : Setup) (b : Bank) (r : Held) (targets records delay : List Float) : Type 0 where
+-- a setup as it is heard (C-17): of a two-axis table the z = 1 face is ignored, here 0
+abbrev pub heardSetup : Setup → Setup
+heardSetup s = record {
+  code = s .code;
+  rate = s .rate;
+  reference = s .reference;
+  voices = s .voices;
+  channels = s .channels;
+  clean = s .clean;
+  table = heardTable (s .table);
+}
+
+-- the setup s as it is heard, which has the same engine, and the bank b, from restore's answer and lists
+pub record SameBank (s : Setup) (b : Bank) (r : Held) (targets records delay : List Float) : Type 1 where
   pub verdict : r .verdict ≡ Fine
-  pub setup : r .setup ≡ s
+  pub setup : r .setup ≡ heardSetup s
+  pub heard-as : engine (r .setup) ≡ engine s
   pub bank : bankOf targets records delay (r .cursor) ≡ b
 
 -- Restoring what was parked, into any lent lists of the right lengths, gives the same setup, cursor and lists.
-abbrev pub RoundTrip : Setup → Bank → Type 0
+abbrev pub RoundTrip : Setup → Bank → Type 1
 RoundTrip s b =
     (list file : List ℕ) (a : CodeAnswer) → ParkDoes s b list a file → parkVerdict s b list ≡ fine
     → (lent : Bank) (r : Held) (targets records delay : List Float) → RestoreDoes file lent r targets records delay
@@ -75,7 +90,7 @@ unfolding restoreVerdict _then_
 lists-decide file s b lent h =
     (λ t. h .accepted t then storeCheckOf (h .setup t .channels) (ringLen (h .setup t .rate)) (h .voices t) lent)
 
-setup-same : (file : List ℕ) (s : Setup) → soloIn file ≡ soloOf s → voicesIn file ≡ s .voices → setupIn file ≡ s
+setup-same : (file : List ℕ) (s : Setup) → soloIn file ≡ heard (soloOf s) → voicesIn file ≡ s .voices → setupIn file ≡ heardSetup s
 unfolding setupIn
 setup-same file s e v = λ t. record {
   code = e t .code;
@@ -96,9 +111,11 @@ round-trip s b list file a d e lent r tg rs ds q l =
     let h = d .holds e in
     let f = held-fine (restoreVerdict file lent) file lent (lists-decide file s b lent h ∙ l) in
     let held : r ≡ heldBy fine file = q .answer ∙ f .0 in
+    let same : r .setup ≡ heardSetup s = ap (λ (x : Held). x .setup) held ∙ setup-same file s (h .setup) (h .voices) in
     record {
       verdict = ap (λ (x : Held). x .verdict) held;
-      setup = ap (λ (x : Held). x .setup) held ∙ setup-same file s (h .setup) (h .voices);
+      setup = same;
+      heard-as = ap engine same ∙ heard-engine (soloOf s);
       bank = q .lists ∙ f .1 ∙ h .bank;
     }
 

@@ -38,9 +38,9 @@ fn word_of(x: f32) -> u32
     text::bits_of(x)
 }
 
-// Word `i` of kind 1: the nine in front, the table's numbers, its gain.
+// Word `i` of kind 1: the nine in front, the numbers of the table's near face, its gain.
 fn word_from(front: &[u32], sections: &[f32], gain: u32, i: usize) -> u32
-    requires { ⌜ (length (now front) ≡ 9) × (length (now sections) ≡ 160) ⌝ }
+    requires { ⌜ (length (now front) ≡ 9) × (length (now sections) ≡ 320) ⌝ }
     ensures { λ r. ⌜ r ≡ wordFrom (now (front .entry)) (now (sections .entry)) gain i ⌝ }
 {
     if i < 9 {
@@ -54,9 +54,9 @@ fn word_from(front: &[u32], sections: &[f32], gain: u32, i: usize) -> u32
 }
 
 fn words_from(front: &[u32], sections: &[f32], gain: u32, words: &mut [u32])
-    requires { ⌜ (length (now front) ≡ 9) × (length (now sections) ≡ 160) × (length (now words) ≡ 170) ⌝ }
+    requires { ⌜ (length (now front) ≡ 9) × (length (now sections) ≡ 320) × (length (now words) ≡ 170) ⌝ }
     ensures { λ _. ⌜ (now (words .exit) ≡ wordsFrom (now (front .entry)) (now (sections .entry)) gain)
-        × F32s (now (sections .entry)) × (length (now (sections .entry)) ≡ 160) ⌝ }
+        × F32s (now (sections .entry)) × (length (now (sections .entry)) ≡ 320) ⌝ }
 {
     let mut i = 0;
     while i < 170 {
@@ -146,11 +146,12 @@ fn file_word(file: &[u8], a: usize, b: usize, i: usize) -> u32
     file_words::get_word(file, b * 128 + at)
 }
 
-fn read_sections(file: &[u8], a: usize, b: usize) -> [f32; 160]
+// The numbers of a table of two axes; those of the far face are zero (C-17).
+fn read_sections(file: &[u8], a: usize, b: usize) -> [f32; 320]
     requires { ⌜ SetupAt (now file) a b ⌝ }
     ensures { λ r. ⌜ r ≡ sectionsIn (now (file .entry)) ⌝ }
 {
-    let mut sections = [0.0f32; 160];
+    let mut sections = [0.0f32; 320];
     let mut i = 0;
     while i < 160 {
         sections[i] = text::float_of(file_word(file, a, b, 9 + i));
@@ -180,6 +181,7 @@ fn read_table(file: &[u8], a: usize, b: usize) -> Table
     let gain = text::float_of(file_word(file, a, b, 169));
     Table {
         active: active,
+        three: false,
         sections: sections,
         gain: gain,
     }
@@ -226,7 +228,8 @@ fn refused_file(number: u32) -> Held
 {
     let table = Table {
         active: 0,
-        sections: [0.0; 160],
+        three: false,
+        sections: [0.0; 320],
         gain: 0.0,
     };
     let setup = Setup {

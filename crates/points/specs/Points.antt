@@ -1,10 +1,10 @@
--- pole_zero.rs (document 01, The pole-zero table), the part below the design: a point and its values in their ranges, its section,
+-- pole_zero.rs (document 01, The pole-zero table; document 02, C-17), the part below the design: a point and its values in their ranges, its section,
 -- a state of eight points, in the Rust's order. Definitions only. Assumes nothing.
 use mathlib.Core.List.{List, [], _∷_}
 use mathlib.Core.Bool.{Bool, true, false, cond}
 use Prim.Native.Nat.{_^_}
 use lib.Ieee.{Float, neg, isNan}
-use Rattle.lane.specs.Floats.{_⊗_, _⊘_, decimal, whole, zero, one}
+use Rattle.lane.specs.Floats.{_⊕_, _⊖_, _⊗_, _⊘_, decimal, whole, zero, one}
 use Rattle.lane.specs.Lane.{maxOf, clampOf, pow10Of}
 use Rattle.log2.specs.Log2.{logOf}
 use Rattle.parts.specs.Parts.{tab}
@@ -116,6 +116,15 @@ unfoldable pub sectionOf : Point → Section
 sectionOf self =
     let p = clamped self in
     sectionOfKind (p .kind) (p .frequency) (logOf (p .frequency ⊘ neutralHz)) (one ⊘ p .q)
+
+-- C-17: "Each section number is A + z × (B - A), where A and B are the two-axis numbers of the two faces", "in f32 in that order"
+unfoldable pub between : (a b z : Float) → Float
+between a b z = a ⊕ z ⊗ (b ⊖ a)
+
+unfoldable pub sectionBetween : Section → Section → (z : Float) → Section
+sectionBetween a b z =
+    newSection (between (a .octaves) (b .octaves) z) (between (a .damping) (b .damping) z) (between (a .high) (b .high) z)
+    (between (a .band) (b .band) z) (between (a .low) (b .low) z)
 
 -- Section::values
 unfoldable pub values : Section → List Float

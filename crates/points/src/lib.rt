@@ -3,7 +3,7 @@ ghost use mathlib.Core.Path.{_≡_};
 ghost use mathlib.Core.Bool.{Bool};
 ghost use mathlib.Core.List.{List};
 ghost use Rattle.points.specs.Points.{defaultPoint, clampOr, clampedKind, clamped, newSection, sectionOfKind, sectionOf, values, bypassAt};
-ghost use Rattle.points.specs.Points.{isBypass, defaultState};
+ghost use Rattle.points.specs.Points.{between, sectionBetween, isBypass, defaultState};
 
 // The lowest and highest point frequency, in hertz.
 const FREQUENCY_LOW: f32 = 8.0;
@@ -64,6 +64,13 @@ pub fn clamp_or(v: f32, lo: f32, hi: f32, or: f32) -> f32
         return or;
     }
     lane::clamp(v, lo, hi)
+}
+
+// A section's number at z, between a at z = 0 and b at z = 1.
+pub fn between(a: f32, b: f32, z: f32) -> f32
+    ensures { λ r. ⌜ r ≡ between a b z ⌝ }
+{
+    a + z * (b - a)
 }
 
 impl PointKind {
@@ -169,6 +176,19 @@ impl Section {
             high: high,
             band: band,
             low: low,
+        }
+    }
+
+    // The section at z between this one at z = 0 and the other at z = 1.
+    pub fn between(self, far: Section, z: f32) -> Section
+        ensures { λ r. ⌜ r ≡ sectionBetween self far z ⌝ }
+    {
+        Section {
+            octaves: between(self.octaves, far.octaves, z),
+            damping: between(self.damping, far.damping, z),
+            high: between(self.high, far.high, z),
+            band: between(self.band, far.band, z),
+            low: between(self.low, far.low, z),
         }
     }
 

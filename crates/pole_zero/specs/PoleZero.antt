@@ -1,7 +1,7 @@
--- pole_zero.rs (document 01, The pole-zero table): the design, over the points of crate `points`, and its table, in the Rust's order,
+-- pole_zero.rs (document 01, The pole-zero table; document 02, C-17): the design, over the points of crate `points`, and its table, in the Rust's order,
 -- save that `bilinear` stands before `section`, which uses it. Definitions only. Assumes nothing.
 use mathlib.Core.List.{List, [], _∷_, _++_}
-use mathlib.Core.Bool.{Bool, cond, _&&_}
+use mathlib.Core.Bool.{Bool, false, cond, not, _&&_, _||_}
 use Prim.Native.Nat.{ℕ, _+_, _*_}
 use lib.Dec.{ltb}
 use lib.ListN.{getD, replicate}
@@ -13,7 +13,7 @@ use Rattle.points.specs.declared.PointKind.the-variants.{HighPass}
 use Rattle.points.specs.declared.Point.{Point}
 use Rattle.points.specs.declared.Section.{Section}
 use Rattle.points.specs.declared.State.{State}
-use Rattle.points.specs.Points.{clampOr, newSection, sectionOf, values, defaultState, isBypass}
+use Rattle.points.specs.Points.{clampOr, newSection, sectionOf, sectionBetween, values, defaultState, isBypass}
 use Rattle.pole_zero.specs.declared.PoleZeroDesign.{PoleZeroDesign}
 use Rattle.pole_zero.specs.declared.Table.{Table}
 use Rattle.pole_zero.specs.declared.Answer.{Answer}
@@ -25,9 +25,18 @@ use Rattle.pole_zero.specs.declared.Answer.the-variants.{Values, Refused
 abbrev pub gainDb : Float
 gainDb = whole 24
 
--- PoleZeroDesign::default
+-- C-17: a design has eight states, the first four at z = 0 and the others at z = 1, which are read if it has three axes
+
+-- where the states of the two faces begin
+abbrev pub near : ℕ
+near = 0
+
+abbrev pub far : ℕ
+far = 4
+
+-- PoleZeroDesign::default, of two axes
 unfoldable pub defaultDesign : PoleZeroDesign
-defaultDesign = record { states = replicate 4 defaultState; «gain_db» = zero }
+defaultDesign = record { states = replicate 8 defaultState; three = false; «gain_db» = zero }
 
 -- what stands past the end of a list of points or states: never read
 abbrev pub noPoint : Point
@@ -57,11 +66,11 @@ termsOf a b c d =
     ++ terms (a .band) (b .band) (c .band) (d .band)
     ++ terms (a .low) (b .low) (c .low) (d .low)
 
--- PoleZeroDesign::bilinear: by value, then the four terms
-unfoldable pub bilinearOf : PoleZeroDesign → ℕ → List Float
-bilinearOf d point =
-    termsOf (sectionOf (pointAt d 0 point)) (sectionOf (pointAt d 1 point))
-    (sectionOf (pointAt d 2 point)) (sectionOf (pointAt d 3 point))
+-- PoleZeroDesign::bilinear of the face whose states begin at `face`: by value, then the four terms
+unfoldable pub bilinearOf : PoleZeroDesign → (face point : ℕ) → List Float
+bilinearOf d face point =
+    termsOf (sectionOf (pointAt d face point)) (sectionOf (pointAt d (face + 1) point))
+    (sectionOf (pointAt d (face + 2) point)) (sectionOf (pointAt d (face + 3) point))
 
 -- PoleZeroDesign::section, value i: c00 + x dx + y dy + x y dxy
 unfoldable pub blend : List Float → ℕ → Float → Float → Float
@@ -71,6 +80,12 @@ blend t i x y =
 
 unfoldable pub blended : List Float → Float → Float → Section
 blended t x y = newSection (blend t 0 x y) (blend t 1 x y) (blend t 2 x y) (blend t 3 x y) (blend t 4 x y)
+
+-- a design's point at x, y and z: of two axes the near face's, whatever z is
+unfoldable pub blendedAt : PoleZeroDesign → (point : ℕ) (x y z : Float) → Section
+blendedAt d point x y z =
+    let a = blended (bilinearOf d near point) x y in
+    cond (d .three) (sectionBetween a (blended (bilinearOf d far point) x y) z) a
 
 -- an answer's refusal number (document 01, A bank is opened), 0 for none, and its values
 unfoldable pub refusalOf : Answer → ℕ
@@ -85,28 +100,42 @@ valuesOf Refused = []
 unfoldable pub sectionRefusal : ℕ → ℕ
 sectionRefusal point = cond (ltb point 8) 0 11
 
--- PoleZeroDesign::section: the five values at x and y, each clamped to 0 .. 1; a NaN stays NaN
-unfoldable pub sectionValues : PoleZeroDesign → ℕ → Float → Float → List Float
-sectionValues d point x y =
-    cond (ltb point 8) (values (blended (bilinearOf d point) (clampOf x zero one) (clampOf y zero one))) []
+-- PoleZeroDesign::section: the five values at x, y and z (C-17), each clamped to 0 .. 1; a NaN stays NaN
+unfoldable pub sectionValues : PoleZeroDesign → ℕ → (x y z : Float) → List Float
+sectionValues d point x y z =
+    cond (ltb point 8) (values (blendedAt d point (clampOf x zero one) (clampOf y zero one) (clampOf z zero one))) []
 
--- PoleZeroDesign::is_bypassed
+-- PoleZeroDesign::is_bypassed, of one face
+unfoldable pub faceBypassed : PoleZeroDesign → (face point : ℕ) → Bool
+faceBypassed d face point =
+    isBypass (pointAt d face point .kind) && isBypass (pointAt d (face + 1) point .kind)
+    && isBypass (pointAt d (face + 2) point .kind) && isBypass (pointAt d (face + 3) point .kind)
+
+-- C-17: "if it is Bypass in all eight", or in all four of a design of two axes
 unfoldable pub isBypassed : PoleZeroDesign → ℕ → Bool
-isBypassed d point =
-    isBypass (pointAt d 0 point .kind) && isBypass (pointAt d 1 point .kind)
-    && isBypass (pointAt d 2 point .kind) && isBypass (pointAt d 3 point .kind)
+isBypassed d point = faceBypassed d near point && (not (d .three) || faceBypassed d far point)
 
 -- ---- Table
 
+-- a table has 20 numbers a section and eight sections a face; of the far face (C-17) the numbers are 0 where there are two axes
+abbrev pub faceSections : ℕ
+faceSections = 8
+
 -- Table::of before its loop
 unfoldable pub emptyTable : PoleZeroDesign → Table
-emptyTable design = record { active = 0; sections = replicate 160 zero; gain = designGain design }
+emptyTable design = record { active = 0; three = design .three; sections = replicate 320 zero; gain = designGain design }
 
--- Table::of, one turn: a point that is a bypass in all four states is skipped, any other is the next section
+-- point p as section n: its terms in the near face and, with three axes, in the far one
+unfoldable pub withSection : PoleZeroDesign → (p n : ℕ) → List Float → List Float
+withSection design p n sections =
+    let s = patch 20 n (bilinearOf design near p) sections in
+    cond (design .three) (patch 20 (faceSections + n) (bilinearOf design far p) s) s
+
+-- Table::of, one turn: a point that is a bypass in all its states is skipped, any other is the next section
 unfoldable pub withPoint : PoleZeroDesign → ℕ → Table → Table
 withPoint design p t =
     cond (isBypassed design p) t
-    record { active = t .active + 1; sections = patch 20 (t .active) (bilinearOf design p) (t .sections); gain = t .gain }
+    record { active = t .active + 1; three = t .three; sections = withSection design p (t .active) (t .sections); gain = t .gain }
 
 -- Table::of
 unfoldable pub tableOf : PoleZeroDesign → Table

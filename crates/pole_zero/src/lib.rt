@@ -1,12 +1,13 @@
-// The pole-zero filter's design (pole_zero.rs): four states of eight points each, morphed by x and y, an overall gain,
-// and the table that the kernel runs.
+// The pole-zero filter's design (pole_zero.rs): four states of eight points each, morphed by x and y, or eight states, morphed by z too (document 02,
+// C-17), an overall gain, and the table that the kernel runs.
 ghost use mathlib.Core.Path.{_≡_};
 ghost use mathlib.Core.Bool.{Bool};
 ghost use mathlib.Core.List.{List};
 ghost use Prim.Native.Nat.{_+_, _*_, _<_, _≤_};
 ghost use Rattle.parts.specs.Parts.{patch};
 ghost use Rattle.pole_zero.specs.PoleZero.{defaultDesign, pointAt, designGain, refusalOf, valuesOf, sectionRefusal, sectionValues, blend};
-ghost use Rattle.pole_zero.specs.PoleZero.{blended, termsOf, bilinearOf, isBypassed, emptyTable, withPoint, tableOf};
+ghost use Rattle.pole_zero.specs.PoleZero.{blended, blendedAt, termsOf, bilinearOf, faceBypassed, isBypassed};
+ghost use Rattle.pole_zero.specs.PoleZero.{emptyTable, withSection, withPoint, tableOf};
 use points::Point;
 use points::Section;
 use points::State;
@@ -14,16 +15,24 @@ use points::State;
 // The overall gain's range, in decibels.
 const GAIN_DB: f32 = 24.0;
 
-// A pole-zero filter's whole design.
+// Where the states of a face begin: four at z = 0, four at z = 1.
+const NEAR: usize = 0;
+
+const FAR: usize = 4;
+
+// A pole-zero filter's whole design. With two axes the states at z = 1 are not read.
 pub struct PoleZeroDesign {
-    pub states: [State; 4],
+    pub states: [State; 8],
+    pub three: bool,
     pub gain_db: f32,
 }
 
-// A design in the form the kernel runs: 20 numbers for each point that does something.
+// A design in the form the kernel runs: 20 numbers for each point that does something, in the face at z = 0, 160 numbers, and then in that at z = 1,
+// which is read if there are three axes.
 pub struct Table {
     pub active: u32,
-    pub sections: [f32; 160],
+    pub three: bool,
+    pub sections: [f32; 320],
     pub gain: f32,
 }
 
@@ -84,20 +93,21 @@ fn blended(t: [f32; 20], x: f32, y: f32) -> Section
 }
 
 impl PoleZeroDesign {
-    // Every state the default's, the gain 0 dB.
+    // Every state the default's, two axes, the gain 0 dB.
     pub fn default() -> PoleZeroDesign
         ensures { λ r. ⌜ r ≡ defaultDesign ⌝ }
     {
         let s = State::default();
         PoleZeroDesign {
-            states: [s; 4],
+            states: [s; 8],
+            three: false,
             gain_db: 0.0,
         }
     }
 
     // Point `point` of state `state`.
     fn point(self, state: usize, point: usize) -> Point
-        requires { ⌜ (state < 4) × (point < 8) ⌝ }
+        requires { ⌜ (state < 8) × (point < 8) ⌝ }
         ensures { λ r. ⌜ r ≡ pointAt self state point ⌝ }
     {
         let s = self.states[state];
@@ -111,48 +121,78 @@ impl PoleZeroDesign {
         lane::pow10(points::clamp_or(self.gain_db, -GAIN_DB, GAIN_DB, 0.0), 20.0)
     }
 
-    // Point `point`'s section at `x` and `y` (each 0 to 1), as the filter blends it.
-    pub fn section(self, point: usize, x: f32, y: f32) -> Answer
+    // Point `point`'s section at x, y and z.
+    fn blended_at(self, point: usize, x: f32, y: f32, z: f32) -> Section
+        requires { ⌜ point < 8 ⌝ }
+        ensures { λ r. ⌜ r ≡ blendedAt self point x y z ⌝ }
+    {
+        let a = blended(self.bilinear(NEAR, point), x, y);
+        if !self.three {
+            return a;
+        }
+        a.between(blended(self.bilinear(FAR, point), x, y), z)
+    }
+
+    // Point `point`'s section at `x`, `y` and `z` (each 0 to 1), as the filter blends it.
+    pub fn section(self, point: usize, x: f32, y: f32, z: f32) -> Answer
         ensures refusal { λ r. ⌜ refusalOf r ≡ sectionRefusal point ⌝ }
-        ensures values { λ r. ⌜ valuesOf r ≡ sectionValues self point x y ⌝ }
+        ensures values { λ r. ⌜ valuesOf r ≡ sectionValues self point x y z ⌝ }
     {
         if point < 8 {
-            let t = self.bilinear(point);
-            Answer::Values(blended(t, lane::clamp(x, 0.0, 1.0), lane::clamp(y, 0.0, 1.0)))
+            Answer::Values(self.blended_at(
+                point,
+                lane::clamp(x, 0.0, 1.0),
+                lane::clamp(y, 0.0, 1.0),
+                lane::clamp(z, 0.0, 1.0),
+            ))
         } else {
             Answer::Refused
         }
     }
 
-    // Point `point`'s corner values as the bilinear form's terms.
-    fn bilinear(self, point: usize) -> [f32; 20]
-        requires { ⌜ point < 8 ⌝ }
-        ensures { λ r. ⌜ r ≡ bilinearOf self point ⌝ }
+    // Point `point`'s corner values, of the face whose states begin at `face`, as the bilinear form's terms.
+    fn bilinear(self, face: usize, point: usize) -> [f32; 20]
+        requires { ⌜ (face ≤ 4) × (point < 8) ⌝ }
+        ensures { λ r. ⌜ r ≡ bilinearOf self face point ⌝ }
     {
         terms(
-            self.point(0, point).section(),
-            self.point(1, point).section(),
-            self.point(2, point).section(),
-            self.point(3, point).section(),
+            self.point(face, point).section(),
+            self.point(face + 1, point).section(),
+            self.point(face + 2, point).section(),
+            self.point(face + 3, point).section(),
         )
     }
 
-    // Whether point `point` is a bypass in every state, so that it does nothing wherever X and Y are.
+    // Whether point `point` is a bypass in every state of a face.
+    fn face_bypassed(self, face: usize, point: usize) -> bool
+        requires { ⌜ (face ≤ 4) × (point < 8) ⌝ }
+        ensures { λ r. ⌜ r ≡ faceBypassed self face point ⌝ }
+    {
+        let k0 = self.point(face, point).kind;
+        let k1 = self.point(face + 1, point).kind;
+        let k2 = self.point(face + 2, point).kind;
+        let k3 = self.point(face + 3, point).kind;
+        k0.is_bypass() & k1.is_bypass() & k2.is_bypass() & k3.is_bypass()
+    }
+
+    // Whether point `point` is a bypass in every state, so that it does nothing wherever X, Y and Z are.
     fn is_bypassed(self, point: usize) -> bool
         requires { ⌜ point < 8 ⌝ }
         ensures { λ r. ⌜ r ≡ isBypassed self point ⌝ }
     {
-        let k0 = self.point(0, point).kind;
-        let k1 = self.point(1, point).kind;
-        let k2 = self.point(2, point).kind;
-        let k3 = self.point(3, point).kind;
-        k0.is_bypass() & k1.is_bypass() & k2.is_bypass() & k3.is_bypass()
+        if !self.face_bypassed(NEAR, point) {
+            return false;
+        }
+        if !self.three {
+            return true;
+        }
+        self.face_bypassed(FAR, point)
     }
 }
 
 // A point's terms stored as section n.
-fn store(sections: [f32; 160], n: usize, t: [f32; 20]) -> [f32; 160]
-    requires { ⌜ n < 8 ⌝ }
+fn store(sections: [f32; 320], n: usize, t: [f32; 20]) -> [f32; 320]
+    requires { ⌜ n < 16 ⌝ }
     ensures { λ r. ⌜ r ≡ patch 20 n t sections ⌝ }
 {
     let mut s = sections;
@@ -165,6 +205,18 @@ fn store(sections: [f32; 160], n: usize, t: [f32; 20]) -> [f32; 160]
     s
 }
 
+// Point p of a design stored as section n of each face that the table has.
+fn with_section(sections: [f32; 320], design: PoleZeroDesign, p: usize, n: usize) -> [f32; 320]
+    requires { ⌜ (p < 8) × (n < 8) ⌝ }
+    ensures { λ r. ⌜ r ≡ withSection design p n sections ⌝ }
+{
+    let s = store(sections, n, design.bilinear(NEAR, p));
+    if !design.three {
+        return s;
+    }
+    store(s, 8 + n, design.bilinear(FAR, p))
+}
+
 impl Table {
     // No section in use.
     fn empty(design: PoleZeroDesign) -> Table
@@ -172,7 +224,8 @@ impl Table {
     {
         Table {
             active: 0,
-            sections: [0.0; 160],
+            three: design.three,
+            sections: [0.0; 320],
             gain: design.gain(),
         }
     }
@@ -189,7 +242,8 @@ impl Table {
         let n = self.active as usize;
         Table {
             active: self.active + 1,
-            sections: store(s, n, design.bilinear(p)),
+            three: self.three,
+            sections: with_section(s, design, p, n),
             gain: self.gain,
         }
     }

@@ -1,3 +1,4 @@
 -- To be read: Poles.
 pub mod Poles
 pub mod Numbers
+pub mod Heard

@@ -4,14 +4,16 @@ use mathlib.Core.Path.{_≡_}
 use Prim.Native.Nat.{ℕ}
 use mathlib.Core.Option.{some}
 use mathlib.Core.List.{List, [], _∷_, _++_}
-use lib.ListN.{length}
+use lib.ListN.{length, take}
 use lib.Ieee.{Float}
+use Rattle.lane.specs.Floats.{_‼_}
 use Rattle.lines.specs.declared.Ring.{Ring}
+use Rattle.filter.specs.Voice.{«MORPH_Z»}
 use Rattle.lines.specs.Ring.{cellsAt, withCells}
 use Rattle.pole_zero.specs.declared.Table.{Table}
 use Rattle.kernels.specs.Kernels.{Kernel}
 use Rattle.kernels.specs.Contracts.{Kept, KeptSections}
-use Rattle.voices.specs.Calls.{targetsWidth, statesWidth, Tick}
+use Rattle.voices.specs.Calls.{smoothedWidth, targetsWidth, statesWidth, Tick}
 use Rattle.run.specs.declared.Controls.{Controls}
 use Rattle.run.specs.declared.FrameInput.{FrameInput}
 use Rattle.run.specs.declared.Sample.{Sample}
@@ -21,12 +23,12 @@ use Rattle.peak.specs.Running.{settledOf}
 
 -- the setup's table
 abbrev pub tableFor : Structure → (sections : List Float) → Table
-tableFor m sections = record { active = m .active; sections = sections; gain = m .gain }
+tableFor m sections = record { active = m .active; three = m .three; sections = sections; gain = m .gain }
 
 -- what is kept from frame to frame is right for the structure and the table's sections
 pub record Keeps (m : Structure) (sections tuning blended : List Float) (over : ℕ) : Type 0 where
   pub numbers : Kept (m .code) (m .k .«ref_over_rate») tuning over
-  pub blends : KeptSections (m .code) sections (m .active) (m .k .«ref_over_rate») blended over
+  pub blends : KeptSections (m .code) (tableFor m sections) (m .k .«ref_over_rate») blended over
 
 -- lag, drive and kernel on the ring `at` of a delay list
 abbrev pub kernelOn : Structure → (sections : List Float) → Ring → (params state : List Float) → Controls
@@ -44,9 +46,9 @@ tickOn m sections at f targets rec delay =
     tickWith (m .code) (m .k) (tableFor m sections) (at .len) (f .sign) targets (at .cursor) (f .pitch .0) (f .input)
     (some (f .x, f .y)) rec (cellsAt delay at)
 
--- a slot's record by its parts: the ten smoothed numbers, the twenty states and the peak
+-- a slot's record by its parts: the smoothed numbers, of which z stands last, the twenty states and the peak
 abbrev pub recordOf : (params state : List Float) (peak : Float) → List Float
-recordOf params state peak = params ++ state ++ peak ∷ []
+recordOf params state peak = take smoothedWidth params ++ state ++ peak ∷ params ‼ «MORPH_Z» ∷ []
 
 -- the same while a block runs that began with the peak b: p runs in its place
 abbrev pub heldRecord : (params state : List Float) (b p : Float) → List Float

@@ -1,5 +1,5 @@
 -- For the proofs: nothing here must be believed.
--- A tick keeps the record's 31 numbers and the ring's length, and judges at most eight ratios, whatever the structure. Assumes nothing.
+-- A tick keeps the record's 32 numbers and the ring's length, and judges at most eight ratios, whatever the structure. Assumes nothing.
 use mathlib.Core.Path.{_≡_, refl, _∙_}
 use Prim.Native.Nat.{ℕ, _≤_}
 use mathlib.Core.Bool.{Bool, true, false, cond}
@@ -13,10 +13,10 @@ use Rattle.filter.specs.Voice.{CHARACTER}
 use Rattle.extended.specs.Extended.{smoothMark}
 use Rattle.pole_zero.specs.declared.Table.{Table}
 use Rattle.kernels.specs.Laws.{SameLengths, kernel-lengths, over-most}
-use Rattle.voices.specs.Calls.{targetsWidth, statesWidth, recordWidth, Steering}
+use Rattle.voices.specs.Calls.{smoothedWidth, targetsWidth, statesWidth, recordWidth, Steering}
 use Rattle.run.specs.declared.Constants.{Constants}
 use Rattle.run.specs.declared.Controls.{Controls}
-use Rattle.run.specs.Run.{smoothOf, lagState, stateAfter, kernelTick, overTick, controlsOf, tickWith}
+use Rattle.run.specs.Run.{smoothOf, lagState, stateAfter, kernelTick, overTick, controlsOf, smoothedIn, tickWith}
 
 lag-length : (code : ℕ) (smooth character : Float) (state : List Float) (at : Controls)
     → length (stateAfter code smooth character state at) ≡ length state
@@ -45,10 +45,10 @@ few-over code k table params state at = over-most code table _ _
 module _ (code : ℕ) (k : Constants) (table : Table) (len : ℕ) (sign : Float) (targets : List Float) (cursor : ℕ) (pitch input : Float)
     (st : Steering) (rec ring : List Float) where
   abbrev params : List Float
-  params = smoothOf (k .alpha) targets (take targetsWidth rec)
+  params = smoothOf (k .alpha) targets (smoothedIn rec)
 
   abbrev state : List Float
-  state = take statesWidth (drop targetsWidth rec)
+  state = take statesWidth (drop smoothedWidth rec)
 
   kept : SameLengths state ring (kernelTick code k table len cursor params state (controlsOf params sign pitch st) input ring)
   kept = kernel-tick-kept code k table len cursor params state (controlsOf params sign pitch st) input ring
@@ -56,8 +56,10 @@ module _ (code : ℕ) (k : Constants) (table : Table) (len : ℕ) (sign : Float)
   pub rec-length : length rec ≡ recordWidth → length (tickWith code k table len sign targets cursor pitch input st rec ring .rec) ≡ recordWidth
   unfolding tickWith
   rec-length h =
-      let states : length state ≡ statesWidth = length-take-le statesWidth (drop targetsWidth rec) (simp length-drop (omega arith)) in
-      simp length-append (omega (arith, smooth-length (k .alpha) targets (take targetsWidth rec), kept .states, states))
+      let states : length state ≡ statesWidth = length-take-le statesWidth (drop smoothedWidth rec) (simp length-drop (omega arith)) in
+      let front : length (take smoothedWidth params) ≡ smoothedWidth
+      = length-take-le smoothedWidth params (omega (arith, smooth-length (k .alpha) targets (smoothedIn rec))) in
+      simp length-append (omega (arith, front, kept .states, states))
 
   pub ring-length : length ring ≡ len → length (tickWith code k table len sign targets cursor pitch input st rec ring .ring) ≡ len
   unfolding tickWith

@@ -4,3 +4,4 @@ pub mod Contracts
 pub mod Laws
 pub mod Unsteered
 pub mod Zeros
+pub mod Heard

@@ -1,4 +1,4 @@
--- One frame of one slot: the body of Run::go's frame loop (document 01, One block goes through, points 1 to 5; document 02, C-11, C-15).
+-- One frame of one slot: the body of Run::go's frame loop (document 01, One block goes through, points 1 to 5; document 02, C-11, C-15, C-17).
 -- Definitions only. Assumes nothing.
 use Prim.Native.Nat.{ℕ, _+_}
 use mathlib.Core.Bool.{Bool, cond}
@@ -11,13 +11,13 @@ use lib.Ieee.{Float, neg}
 use Rattle.parts.specs.Parts.{tab}
 use Rattle.lane.specs.Floats.{_⊕_, _⊖_, _⊗_, _⊘_, _‼_, fma, decimal, whole, zero, one}
 use Rattle.lane.specs.Lane.{expOf, pow10Of, softClip}
-use Rattle.filter.specs.Voice.{RES, DRIVE, «DRIVE_GAIN», «INV_KNEE», OFFSET, MIX, LEVEL, CHARACTER, «MORPH_X», «MORPH_Y»}
+use Rattle.filter.specs.Voice.{DRIVE, «DRIVE_GAIN», OFFSET, MIX, LEVEL, CHARACTER, «MORPH_X», «MORPH_Y», «MORPH_Z»}
 use Rattle.extended.specs.declared.Settings.{Settings}
-use Rattle.extended.specs.Extended.{unitOr0, smoothMark}
+use Rattle.extended.specs.Extended.{settingsAt, unitOr0, smoothMark}
 use Rattle.peak.specs.Peak.{peakOf}
 use Rattle.pole_zero.specs.declared.Table.{Table}
 use Rattle.kernels.specs.Kernels.{Kernel, kernelOf, overCount}
-use Rattle.voices.specs.Calls.{Tick, Steering, targetsWidth, statesWidth}
+use Rattle.voices.specs.Calls.{Tick, Steering, smoothedWidth, targetsWidth, statesWidth, recordZ}
 use Rattle.run.specs.declared.Constants.{Constants}
 use Rattle.run.specs.declared.Controls.{Controls}
 
@@ -47,7 +47,7 @@ signOf channels c = cond (eqb channels 1) zero (cond (eqb c 0) (neg one) one)
 unfoldable pub glide : (alpha target p : Float) → Float
 glide alpha target p = fma (target ⊖ p) alpha p
 
--- the eight settings and the two morph numbers
+-- the eight settings, the two morph numbers and z (C-17)
 unfoldable pub smoothOf : (alpha : Float) (targets params : List Float) → List Float
 smoothOf alpha targets params = tab (λ i. glide alpha (targets ‼ i) (params ‼ i)) targetsWidth
 
@@ -116,17 +116,8 @@ drivenOf k params input =
     let clipped = softClip (u ⊗ k .«clip_in») ⊗ k .«clip_out» in
     fma (clipped ⊖ u) (params ‼ DRIVE) u
 
-unfoldable pub settingsOf : Constants → (params : List Float) → Controls → Settings
-settingsOf k params at =
-    record {
-      resonance = params ‼ RES;
-      «inv_knee» = params ‼ «INV_KNEE»;
-      character = params ‼ CHARACTER;
-      x = at .x;
-      y = at .y;
-      «ref_over_rate» = k .«ref_over_rate»;
-      «reference_ratio» = k .«ref_over_rate»;
-    }
+abbrev pub settingsOf : Constants → (params : List Float) → Controls → Settings
+settingsOf k params at = settingsAt (k .«ref_over_rate») params (at .x) (at .y)
 
 -- ---- 4. the ring is Comb2's alone: combs/specs/Combs.antt, over lines/specs/Lines.antt
 
@@ -137,9 +128,13 @@ mixOf params input wet = fma wet (params ‼ MIX) (input ⊗ (one ⊖ params ‼
 
 -- C-15: where the record has the slot's peak, which `peakOf` raises by the frame's sample, after mix and level
 abbrev pub PEAK : ℕ
-PEAK = targetsWidth + statesWidth
+PEAK = smoothedWidth + statesWidth
 
 -- ---- the frame
+
+-- the smoothed numbers of a record, in the order of targets: the ten that it begins with, and z (C-17), its last
+abbrev pub smoothedIn : (rec : List Float) → List Float
+smoothedIn rec = take smoothedWidth rec ++ rec ‼ recordZ ∷ []
 
 -- lag, drive and kernel, on the smoothed numbers and the states apart; `len` is the ring's length
 unfoldable pub kernelTick : (code : ℕ) → Constants → Table → (len cursor : ℕ) (params state : List Float) → Controls
@@ -157,16 +152,16 @@ overTick code k table params state at =
     let after = controlsAfter code (k .«smooth_samples») (params ‼ CHARACTER) state at in
     overCount code table (record { 0 = after .pitch }) (settingsOf k params after)
 
--- points 1 to 5. The record is the ten smoothed numbers, the twenty states and the peak
+-- points 1 to 5. The record is the ten smoothed numbers, the twenty states, the peak and the smoothed z (C-17)
 unfoldable pub tickWith : (code : ℕ) → Constants → Table → (len : ℕ) (sign : Float) (targets : List Float) (cursor : ℕ) (pitch input : Float)
     → Steering → (rec ring : List Float) → Tick
 tickWith code k table len sign targets cursor pitch input st rec ring =
-    let params = smoothOf (k .alpha) targets (take targetsWidth rec) in
-    let state = take statesWidth (drop targetsWidth rec) in
+    let params = smoothOf (k .alpha) targets (smoothedIn rec) in
+    let state = take statesWidth (drop smoothedWidth rec) in
     let t = kernelTick code k table len cursor params state (controlsOf params sign pitch st) input ring in
     let out = mixOf params input (t .out) in
     record {
-      rec = params ++ t .state ++ peakOf (rec ‼ PEAK) out ∷ [];
+      rec = take smoothedWidth params ++ t .state ++ peakOf (rec ‼ PEAK) out ∷ params ‼ «MORPH_Z» ∷ [];
       ring = t .ring;
       out = out;
       over = overTick code k table params state (controlsOf params sign pitch st);

@@ -7,10 +7,9 @@ ghost use Rattle.extended.specs.Extended.{unitOr0};
 ghost use Rattle.lines.specs.Ring.{StandsIn};
 ghost use Rattle.kernels.specs.Contracts.{KernelLeaves};
 ghost use Rattle.run.specs.Run.{cleanDrive, constantsOf, signOf, smoothOf, lagShare, lagged, lagState, controlsAfter, stateAfter};
-ghost use Rattle.run.specs.Run.{drivenOf, settingsOf, mixOf};
+ghost use Rattle.run.specs.Run.{drivenOf, mixOf};
 ghost use Rattle.peak.specs.Running.{Runs};
 ghost use Rattle.run.specs.Contracts.{Keeps, kernelOn, overOn, tickOn, TickLeaves, Widths, heldRecord};
-use extended::Settings;
 use filter::Pitch;
 use filter::Ratio;
 use lines::Ring;
@@ -26,13 +25,9 @@ const CLEAN_DB: f32 = 24.0;
 const SMOOTH_SECONDS: f32 = 0.1;
 
 // Where each smoothed number stands.
-const RES: usize = 0;
-
 const DRIVE: usize = 1;
 
 const DRIVE_GAIN: usize = 2;
-
-const INV_KNEE: usize = 3;
 
 const OFFSET: usize = 4;
 
@@ -64,10 +59,11 @@ pub struct Constants {
     pub ref_over_rate: Ratio,
 }
 
-// What a block has of its setup for every tick: the structure's code, the table's active sections and gain, the constants.
+// What a block has of its setup for every tick: the structure's code, the table's active sections, axes and gain, the constants.
 pub struct Structure {
     pub code: u32,
     pub active: u32,
+    pub three: bool,
     pub gain: f32,
     pub k: Constants,
 }
@@ -121,8 +117,8 @@ pub fn sign(channels: usize, channel: usize) -> f32
     if channel == 0 { -1.0 } else { 1.0 }
 }
 
-// The ten smoothed numbers one frame further on the way to their targets.
-fn smooth(params: &mut [f32; 10], targets: &[f32; 10], alpha: f32)
+// The eleven smoothed numbers one frame further on the way to their targets.
+fn smooth(params: &mut [f32; 11], targets: &[f32; 11], alpha: f32)
     ensures { λ _. ⌜ now (params .exit) ≡ smoothOf alpha (now (targets .entry)) (now (params .entry)) ⌝ }
 {
     let next = [
@@ -136,6 +132,7 @@ fn smooth(params: &mut [f32; 10], targets: &[f32; 10], alpha: f32)
         (targets[7] - params[7]) * alpha + params[7],
         (targets[8] - params[8]) * alpha + params[8],
         (targets[9] - params[9]) * alpha + params[9],
+        (targets[10] - params[10]) * alpha + params[10],
     ];
     *params = next;
 }
@@ -199,7 +196,7 @@ fn lag(
     after
 }
 
-fn drive(k: Constants, params: &[f32; 10], input: f32) -> f32
+fn drive(k: Constants, params: &[f32; 11], input: f32) -> f32
     ensures { λ r. ⌜ r ≡ drivenOf k (now (params .entry)) input ⌝ }
 {
     let u = input * params[DRIVE_GAIN];
@@ -207,22 +204,7 @@ fn drive(k: Constants, params: &[f32; 10], input: f32) -> f32
     (clipped - u) * params[DRIVE] + u
 }
 
-fn settings_of(k: Constants, params: &[f32; 10], at: Controls) -> Settings
-    ensures { λ r. ⌜ r ≡ settingsOf k (now (params .entry)) at ⌝ }
-{
-    let reference = k.ref_over_rate;
-    Settings {
-        resonance: params[RES],
-        inv_knee: params[INV_KNEE],
-        character: params[CHARACTER],
-        x: at.x,
-        y: at.y,
-        ref_over_rate: reference,
-        reference_ratio: reference,
-    }
-}
-
-fn mix(params: &[f32; 10], input: f32, wet: f32) -> f32
+fn mix(params: &[f32; 11], input: f32, wet: f32) -> f32
     ensures { λ r. ⌜ r ≡ mixOf (now (params .entry)) input wet ⌝ }
 {
     (wet * params[MIX] + input * (1.0 - params[MIX])) * params[LEVEL]
@@ -237,11 +219,11 @@ pub struct Sample {
 // The lag, the drive and the kernel. `tuning`, `blended` and `over` hold the numbers kept from frame to frame.
 fn kernel_tick(
     m: Structure,
-    sections: &[f32; 160],
+    sections: &[f32; 320],
     tuning: &mut [f32; 10],
-    blended: &mut [f32; 43],
+    blended: &mut [f32; 44],
     over: &mut u32,
-    params: &[f32; 10],
+    params: &[f32; 11],
     state: &mut [f32; 20],
     delay: &mut [f32],
     at: Ring,
@@ -258,15 +240,16 @@ fn kernel_tick(
     let k = m.k;
     let after = lag(m.code, state, k.smooth_samples, params[CHARACTER], controls);
     let driven = drive(k, params, input);
-    let p = settings_of(k, params, after);
     let reference = k.ref_over_rate;
+    let p = extended::settings_at(reference, params, after.x, after.y);
     let pitch = Pitch(after.pitch);
     kernels::tuning::retune(m.code, tuning, over, pitch, reference, params[CHARACTER]);
-    kernels::tuning::blend_sections(m.code, blended, over, sections, m.active, pitch, p);
     let series = Series {
         active: m.active,
+        three: m.three,
         gain: m.gain,
     };
+    kernels::tuning::blend_sections(m.code, blended, over, sections, series, pitch, p);
     let wet = kernels::kernel(
         m.code,
         sections,
@@ -289,12 +272,12 @@ fn kernel_tick(
 // One frame of one slot. `tuning`, `blended` and `over` hold the numbers kept from frame to frame, `peak` what runs in the peak's place.
 pub fn tick(
     m: Structure,
-    sections: &[f32; 160],
+    sections: &[f32; 320],
     tuning: &mut [f32; 10],
-    blended: &mut [f32; 43],
+    blended: &mut [f32; 44],
     over: &mut u32,
-    targets: &[f32; 10],
-    params: &mut [f32; 10],
+    targets: &[f32; 11],
+    params: &mut [f32; 11],
     state: &mut [f32; 20],
     peak: &mut f32,
     delay: &mut [f32],

@@ -1,7 +1,7 @@
 // Replays lists of calls on the proved bank: copies each call and writes its answer anew, so that the output is the input where
 // every answer is right, bit for bit. The answers of the input, lines that start with `=`, `o`, `h`, `c`, `t`, `r` or `d`, are left
 // out; a line that cannot be read gives `?`.
-// Limits: targets 160 numbers, records 992, delay 65,536, each lent with one more at most; pitch, x and y 8,192 numbers each,
+// Limits: targets 176 numbers, records 1,024, delay 65,536, each lent with one more at most; pitch, x and y 8,192 numbers each,
 // audio 16,384, counts 1,024; the input 1,048,576 bytes.
 ghost use Prim.Native.Nat.{_<_, _≤_};
 ghost use lib.ListN.{length};
@@ -304,7 +304,7 @@ fn cursor_after(a: Answer, cursor: usize) -> usize {
     }
 }
 
-// A scenario's start: no lists, and a table of zeros, active 0, gain 1.
+// A scenario's start: no lists, and a table of two axes and zeros, active 0, gain 1.
 fn fresh() -> State {
     State {
         setup: Setup {
@@ -316,7 +316,8 @@ fn fresh() -> State {
             clean: false,
             table: Table {
                 active: 0,
-                sections: [0f32; 160],
+                three: false,
+                sections: [0f32; 320],
                 gain: 1.0,
             },
         },
@@ -351,17 +352,22 @@ fn fresh() -> State {
     }
 }
 
-// `table` active gain nums
-fn table_at(s: &[u8]) -> TableRead {
-    let mut sections = [0f32; 160];
+// `table`, or `table3` with three axes, active gain nums
+fn table_at(s: &[u8], three: bool) -> TableRead {
+    let mut sections = [0f32; 320];
     let read = read_list(s, words::start(s, 0, 3), &mut sections);
+    let most = if three { 320 } else { 160 };
     TableRead {
         table: Table {
             active: u32_at(s, 1),
+            three: three,
             sections: sections,
             gain: words::float_at(s, 0, 2),
         },
-        ok: read.ok & words::are_decimals(s, 0, 1, 1) & words::are_floats(s, 0, 2, 1),
+        ok: read.ok
+            & (read.count <= most)
+            & words::are_decimals(s, 0, 1, 1)
+            & words::are_floats(s, 0, 2, 1),
     }
 }
 
@@ -395,12 +401,12 @@ fn lengths_at(s: &[u8], at: usize) -> Lengths {
 
 fn are_lengths(s: &[u8], at: usize) -> bool {
     let l = lengths_at(s, at);
-    words::are_decimals(s, at, 0, 3) & (l.targets <= 161) & (l.records <= 993) & (l.delay <= 65537)
+    words::are_decimals(s, at, 0, 3) & (l.targets <= 177) & (l.records <= 1025) & (l.delay <= 65537)
 }
 
-fn read_table(s: &[u8], st: State) -> StateRead {
+fn read_table(s: &[u8], st: State, three: bool) -> StateRead {
     let mut next = st;
-    let read = table_at(s);
+    let read = table_at(s, three);
     let mut setup = st.setup;
     let table = read.table;
     setup.table = table;
@@ -502,7 +508,7 @@ fn read_block(s: &[u8], st: State, digest: bool, heard: bool) -> StateRead {
 fn is_read(word: usize, s: &[u8]) -> bool {
     match word {
         6 => words::are_decimals(s, 0, 2, 1),
-        7 => ends_at(s, 11) & words::are_decimals(s, 0, 1, 1) & words::are_floats(s, 0, 2, 9),
+        7 => ends_at(s, 12) & words::are_decimals(s, 0, 1, 1) & words::are_floats(s, 0, 2, 10),
         8 => ends_at(s, 2) & words::are_decimals(s, 0, 1, 1),
         _ => word <= 15,
     }
@@ -515,7 +521,7 @@ fn read_state(word: usize, s: &[u8], st: State) -> StateRead {
             state: fresh(),
             ok: true,
         },
-        1 => read_table(s, st),
+        1 => read_table(s, st, false),
         2 => read_open(s, st),
         3 => read_setup(s, st),
         4 => read_lend(s, st),
@@ -525,6 +531,7 @@ fn read_state(word: usize, s: &[u8], st: State) -> StateRead {
         16 => read_counts(s, st),
         17 => read_block(s, st, false, true),
         18 => read_scratch(s, st),
+        19 => read_table(s, st, true),
         _ => StateRead {
             state: st,
             ok: is_read(word, s),
@@ -536,8 +543,8 @@ fn read_state(word: usize, s: &[u8], st: State) -> StateRead {
 fn poke_list(
     s: &[u8],
     own: Lengths,
-    targets: &mut [f32; 161],
-    records: &mut [f32; 993],
+    targets: &mut [f32; 177],
+    records: &mut [f32; 1025],
     delay: &mut [f32; 65537],
 ) -> ListRead {
     let list = words::name_at(b"t r d", 3, s, words::start(s, 0, 1));
@@ -557,8 +564,8 @@ fn read_numbers(
     word: usize,
     s: &[u8],
     own: Lengths,
-    targets: &mut [f32; 161],
-    records: &mut [f32; 993],
+    targets: &mut [f32; 177],
+    records: &mut [f32; 1025],
     delay: &mut [f32; 65537],
     pitch: &mut [f32; 8192],
     x: &mut [f32; 8192],
@@ -655,7 +662,7 @@ fn open_call(
     put_answer(out, at, a)
 }
 
-// The nine settings from word 2 on.
+// The ten settings from word 2 on.
 fn params_at(s: &[u8]) -> VoiceParams {
     VoiceParams {
         resonance: words::float_at(s, 0, 2),
@@ -667,19 +674,20 @@ fn params_at(s: &[u8]) -> VoiceParams {
         level: words::float_at(s, 0, 8),
         morph_x: words::float_at(s, 0, 9),
         morph_y: words::float_at(s, 0, 10),
+        morph_z: words::float_at(s, 0, 11),
     }
 }
 
-// The ten targets of a voice.
+// The eleven targets of a voice.
 fn put_voice(out: &mut [u8], at: usize, voice: usize, targets: &[f32]) -> usize {
-    let from = 10 * at_most(voice, 15);
-    if from + 10 <= targets.len() {
-        return put_list(out, at, b't', &targets[from..from + 10]);
+    let from = 11 * at_most(voice, 15);
+    if from + 11 <= targets.len() {
+        return put_list(out, at, b't', &targets[from..from + 11]);
     }
     at
 }
 
-// `set` voice and nine floats; where it is accepted the voice's targets follow the answer.
+// `set` voice and ten floats; where it is accepted the voice's targets follow the answer.
 fn set_call(s: &[u8], st: State, targets: &mut [f32], out: &mut [u8], at: usize) -> usize {
     let voice = count_at(s, 0, 1);
     let lent = st.lent;
@@ -979,8 +987,8 @@ fn audition_line(
     at: usize,
 ) -> Step {
     let mut counts = [7u32; 1024];
-    let mut scratch_targets = [0.25f32; 161];
-    let mut scratch_records = [0.25f32; 993];
+    let mut scratch_targets = [0.25f32; 177];
+    let mut scratch_records = [0.25f32; 1025];
     let mut scratch_delay = [0.25f32; 65537];
     let a = audition_call(
         st,
@@ -1016,8 +1024,8 @@ fn respond(
     word: usize,
     s: &[u8],
     st: State,
-    targets: &mut [f32; 161],
-    records: &mut [f32; 993],
+    targets: &mut [f32; 177],
+    records: &mut [f32; 1025],
     delay: &mut [f32; 65537],
     pitch: &[f32; 8192],
     x: &[f32; 8192],
@@ -1048,11 +1056,11 @@ fn put_unread(out: &mut [u8]) -> usize {
     text::put_bytes(out, 0, b"?\n")
 }
 
-// The place of the line's first word among the commands; 19 where it is none of them.
+// The place of the line's first word among the commands; 20 where it is none of them.
 fn command_at(s: &[u8]) -> usize {
     words::name_at(
-        b"scenario table open setup lend cursor poke set start block blockh dump p x y a counts audition scratch",
-        19,
+        b"scenario table open setup lend cursor poke set start block blockh dump p x y a counts audition scratch table3",
+        20,
         s,
         0,
     )
@@ -1062,8 +1070,8 @@ fn command_at(s: &[u8]) -> usize {
 fn command(
     s: &[u8],
     st: State,
-    targets: &mut [f32; 161],
-    records: &mut [f32; 993],
+    targets: &mut [f32; 177],
+    records: &mut [f32; 1025],
     delay: &mut [f32; 65537],
     pitch: &mut [f32; 8192],
     x: &mut [f32; 8192],
@@ -1132,8 +1140,8 @@ fn write(out: &[u8], n: usize) {
 fn line(
     s: &[u8],
     st: State,
-    targets: &mut [f32; 161],
-    records: &mut [f32; 993],
+    targets: &mut [f32; 177],
+    records: &mut [f32; 1025],
     delay: &mut [f32; 65537],
     pitch: &mut [f32; 8192],
     x: &mut [f32; 8192],
@@ -1176,8 +1184,8 @@ fn after(at: usize, end: usize, n: usize) -> usize
 fn replay(
     s: &[u8],
     n: usize,
-    targets: &mut [f32; 161],
-    records: &mut [f32; 993],
+    targets: &mut [f32; 177],
+    records: &mut [f32; 1025],
     delay: &mut [f32; 65537],
     pitch: &mut [f32; 8192],
     x: &mut [f32; 8192],
@@ -1214,8 +1222,8 @@ fn read_input(input: &mut [u8; 1048576]) -> usize {
 fn replay_input(
     input: &[u8; 1048576],
     n: usize,
-    targets: &mut [f32; 161],
-    records: &mut [f32; 993],
+    targets: &mut [f32; 177],
+    records: &mut [f32; 1025],
     delay: &mut [f32; 65537],
     pitch: &mut [f32; 8192],
     x: &mut [f32; 8192],
@@ -1228,8 +1236,8 @@ fn replay_input(
 
 fn main() {
     let mut input = [0u8; 1048576];
-    let mut targets = [0f32; 161];
-    let mut records = [0f32; 993];
+    let mut targets = [0f32; 177];
+    let mut records = [0f32; 1025];
     let mut delay = [0f32; 65537];
     let mut pitch = [0f32; 8192];
     let mut x = [0f32; 8192];

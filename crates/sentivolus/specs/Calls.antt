@@ -1,4 +1,5 @@
--- What the exported calls of the bank answer and leave: numbers in place of the answers of voices/specs/Calls (document 02, C-11, C-12, C-16).
+-- What the exported calls of the bank answer and leave: numbers in place of the answers of voices/specs/Calls (document 02, C-11, C-12, C-16,
+-- C-17).
 -- Definitions only. Assumes nothing.
 use mathlib.Core.Path.{_≡_}
 use Prim.Native.Nat.{ℕ}
@@ -16,12 +17,12 @@ use Rattle.parking.specs.Parking.{parkVerdict, writtenBy, setupIn, restoredBy}
 
 -- the interface's version, 10,000 x major + 100 x minor + patch
 abbrev pub version : ℕ
-version = 800
+version = 900
 
 -- a setup from the numbers that a caller in C hands over
 abbrev pub setupOf : (code : ℕ) (rate reference : Float) (voices channels : ℕ) (clean : Bool)
-    (active : ℕ) (sections : List Float) (gain : Float) → Setup
-setupOf code rate reference voices channels clean active sections gain =
+    (active : ℕ) (three : Bool) (sections : List Float) (gain : Float) → Setup
+setupOf code rate reference voices channels clean active three sections gain =
     record {
       code = code;
       rate = rate;
@@ -29,12 +30,12 @@ setupOf code rate reference voices channels clean active sections gain =
       voices = voices;
       channels = channels;
       clean = clean;
-      table = record { active = active; sections = sections; gain = gain };
+      table = record { active = active; three = three; sections = sections; gain = gain };
     }
 
 -- a voice's settings, in the order of VoiceParams
-abbrev pub paramsOf : (resonance drive saturation character stereoOffset mix level morphX morphY : Float) → VoiceParams
-paramsOf resonance drive saturation character stereoOffset mix level morphX morphY =
+abbrev pub paramsOf : (resonance drive saturation character stereoOffset mix level morphX morphY morphZ : Float) → VoiceParams
+paramsOf resonance drive saturation character stereoOffset mix level morphX morphY morphZ =
     record {
       resonance = resonance;
       drive = drive;
@@ -45,9 +46,10 @@ paramsOf resonance drive saturation character stereoOffset mix level morphX morp
       level = level;
       «morph_x» = morphX;
       «morph_y» = morphY;
+      «morph_z» = morphZ;
     }
 
--- those settings as nine numbers
+-- those settings as ten numbers
 unfoldable pub paramNumbers : VoiceParams → List Float
 paramNumbers p =
     p .resonance
@@ -59,6 +61,7 @@ paramNumbers p =
     ∷ p .level
     ∷ p .«morph_x»
     ∷ p .«morph_y»
+    ∷ p .«morph_z»
     ∷ []
 
 -- the number of a run's newest answer: a refusal's, or 0

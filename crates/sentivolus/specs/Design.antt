@@ -1,8 +1,9 @@
--- A design as flat numbers, for callers in C: 32 kind numbers and 128 floats, state by state, point by point.
+-- A design as flat numbers, for callers in C: 64 kind numbers and 256 floats, state by state, point by point, and whether it has three axes (document 02,
+-- C-17); with two the last four states are not read.
 -- Definitions only. Assumes nothing.
 use mathlib.Core.Path.{_≡_}
 use Prim.Native.Nat.{ℕ, _+_, _*_}
-use mathlib.Core.Bool.{cond}
+use mathlib.Core.Bool.{Bool, cond}
 use mathlib.Core.List.{List, [], _∷_, _++_}
 use lib.Dec.{eqb}
 use lib.ListN.{getD}
@@ -30,7 +31,7 @@ kindOf kind a b =
     (cond (eqb kind 6) (Bell a)
     (cond (eqb kind 7) (Free a b) Bypass))))))
 
--- point i of 32: its kind number, and its frequency, Q, a and b
+-- point i of 64: its kind number, and its frequency, Q, a and b
 unfoldable pub pointOf : List ℕ → List Float → ℕ → Point
 pointOf kinds numbers i =
     record {
@@ -42,26 +43,27 @@ pointOf kinds numbers i =
 unfoldable pub stateOf : List ℕ → List Float → ℕ → State
 stateOf kinds numbers s = record { points = tab (λ i. pointOf kinds numbers (8 * s + i)) 8 }
 
-unfoldable pub designOf : List ℕ → List Float → Float → PoleZeroDesign
-designOf kinds numbers gainDb = record { states = tab (stateOf kinds numbers) 4; «gain_db» = gainDb }
+unfoldable pub designOf : List ℕ → List Float → (three : Bool) → Float → PoleZeroDesign
+designOf kinds numbers three gainDb = record { states = tab (stateOf kinds numbers) 8; three = three; «gain_db» = gainDb }
 
 -- a stage's outputs and states, in the order band, low, ic1, ic2
 unfoldable pub stageNumbers : Stage → List Float
 stageNumbers s = s .band ∷ s .low ∷ s .ic1 ∷ s .ic2 ∷ []
 
 -- what section leaves in the caller's five numbers: the section's, or what they were where the point is refused
-unfoldable pub sectionLeft : PoleZeroDesign → ℕ → Float → Float → List Float → List Float
-sectionLeft design point x y before = cond (eqb (sectionRefusal point) 0) (sectionValues design point x y) before
+unfoldable pub sectionLeft : PoleZeroDesign → ℕ → (x y z : Float) → List Float → List Float
+sectionLeft design point x y z before = cond (eqb (sectionRefusal point) 0) (sectionValues design point x y z) before
 
 -- ---- what the exported calls promise
 
 -- a table's numbers
-pub record TableLeft (t : Table) (active : ℕ) (sections : List Float) (gain : Float) : Type 0 where
+pub record TableLeft (t : Table) (active : ℕ) (three : Bool) (sections : List Float) (gain : Float) : Type 0 where
   pub active' : active ≡ t .active
+  pub three' : three ≡ t .three
   pub sections' : sections ≡ t .sections
   pub gain' : gain ≡ t .gain
 
 -- the refusal's number or 0, and the five numbers
-pub record SectionLeft (design : PoleZeroDesign) (point : ℕ) (x y : Float) (before : List Float) (number : ℕ) (out : List Float) : Type 0 where
+pub record SectionLeft (design : PoleZeroDesign) (point : ℕ) (x y z : Float) (before : List Float) (number : ℕ) (out : List Float) : Type 0 where
   pub answer : number ≡ sectionRefusal point
-  pub numbers : out ≡ sectionLeft design point x y before
+  pub numbers : out ≡ sectionLeft design point x y z before

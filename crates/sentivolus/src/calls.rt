@@ -22,12 +22,12 @@ use pole_zero::Table;
 pub extern "C" fn sentivolus_version() -> u32
     ensures { λ r. ⌜ r ≡ version ⌝ }
 {
-    800
+    900
 }
 
 // The default settings of a voice, in the order of VoiceParams.
 #[no_mangle]
-pub extern "C" fn sentivolus_defaults(out: &mut [f32; 9])
+pub extern "C" fn sentivolus_defaults(out: &mut [f32; 10])
     ensures { λ _. ⌜ now (out .exit) ≡ paramNumbers defaultParams ⌝ }
 {
     let p = filter::default_params();
@@ -41,6 +41,7 @@ pub extern "C" fn sentivolus_defaults(out: &mut [f32; 9])
         p.level,
         p.morph_x,
         p.morph_y,
+        p.morph_z,
     ];
     *out = numbers;
 }
@@ -53,14 +54,16 @@ fn setup_of(
     channels: usize,
     clean: bool,
     active: u32,
-    sections: &[f32; 160],
+    three: bool,
+    sections: &[f32; 320],
     gain: f32,
 ) -> Setup
-    ensures { λ r. ⌜ r ≡ setupOf code rate reference voices channels clean active (now (sections .entry)) gain ⌝ }
+    ensures { λ r. ⌜ r ≡ setupOf code rate reference voices channels clean active three (now (sections .entry)) gain ⌝ }
 {
     let s = *sections;
     let table = Table {
         active: active,
+        three: three,
         sections: s,
         gain: gain,
     };
@@ -115,13 +118,14 @@ pub extern "C" fn sentivolus_open(
     channels: usize,
     clean: bool,
     active: u32,
-    sections: &[f32; 160],
+    three: bool,
+    sections: &[f32; 320],
     gain: f32,
     targets: &mut [f32],
     records: &mut [f32],
     delay: &mut [f32],
 ) -> u32
-    ensures { λ r. ⌜ OpenLeaves (setupOf code rate reference voices channels clean active (now (sections .entry)) gain)
+    ensures { λ r. ⌜ OpenLeaves (setupOf code rate reference voices channels clean active three (now (sections .entry)) gain)
         (bankOf (now (targets .entry)) (now (records .entry)) (now (delay .entry)) 0)
         r (now (targets .exit)) (now (records .exit)) (now (delay .exit)) ⌝ }
 {
@@ -133,6 +137,7 @@ pub extern "C" fn sentivolus_open(
         channels,
         clean,
         active,
+        three,
         sections,
         gain,
     );
@@ -151,7 +156,8 @@ pub extern "C" fn sentivolus_set(
     channels: usize,
     clean: bool,
     active: u32,
-    sections: &[f32; 160],
+    three: bool,
+    sections: &[f32; 320],
     gain: f32,
     targets: &mut [f32],
     voice: usize,
@@ -164,9 +170,10 @@ pub extern "C" fn sentivolus_set(
     level: f32,
     morph_x: f32,
     morph_y: f32,
+    morph_z: f32,
 ) -> u32
-    ensures { λ r. ⌜ CallLeaves (setupOf code rate reference voices channels clean active (now (sections .entry)) gain)
-        (callSet voice (paramsOf resonance drive saturation character «stereo_offset» mix level «morph_x» «morph_y»))
+    ensures { λ r. ⌜ CallLeaves (setupOf code rate reference voices channels clean active three (now (sections .entry)) gain)
+        (callSet voice (paramsOf resonance drive saturation character «stereo_offset» mix level «morph_x» «morph_y» «morph_z»))
         (bankOf (now (targets .entry)) [] [] 0)
         r (now (targets .exit)) [] [] ⌝ }
 {
@@ -178,6 +185,7 @@ pub extern "C" fn sentivolus_set(
         channels,
         clean,
         active,
+        three,
         sections,
         gain,
     );
@@ -191,11 +199,12 @@ pub extern "C" fn sentivolus_set(
         level: level,
         morph_x: morph_x,
         morph_y: morph_y,
+        morph_z: morph_z,
     };
     number_of(bank::set(s, 0, targets, voice, p))
 }
 
-// Copies a voice's targets to its smoothed numbers on every channel and zeroes its states and rings. The cursor stays.
+// Copies a voice's targets to its smoothed numbers on every channel and zeroes its states, peaks and rings. The cursor stays.
 #[no_mangle]
 pub extern "C" fn sentivolus_start(
     code: u32,
@@ -205,14 +214,15 @@ pub extern "C" fn sentivolus_start(
     channels: usize,
     clean: bool,
     active: u32,
-    sections: &[f32; 160],
+    three: bool,
+    sections: &[f32; 320],
     gain: f32,
     targets: &[f32],
     records: &mut [f32],
     delay: &mut [f32],
     voice: usize,
 ) -> u32
-    ensures { λ r. ⌜ CallLeaves (setupOf code rate reference voices channels clean active (now (sections .entry)) gain)
+    ensures { λ r. ⌜ CallLeaves (setupOf code rate reference voices channels clean active three (now (sections .entry)) gain)
         (callStart voice)
         (bankOf (now (targets .entry)) (now (records .entry)) (now (delay .entry)) 0)
         r (now (targets .entry)) (now (records .exit)) (now (delay .exit)) ⌝ }
@@ -225,6 +235,7 @@ pub extern "C" fn sentivolus_start(
         channels,
         clean,
         active,
+        three,
         sections,
         gain,
     );
@@ -242,7 +253,8 @@ pub extern "C" fn sentivolus_block(
     channels: usize,
     clean: bool,
     active: u32,
-    sections: &[f32; 160],
+    three: bool,
+    sections: &[f32; 320],
     gain: f32,
     cursor: &mut usize,
     targets: &[f32],
@@ -257,7 +269,7 @@ pub extern "C" fn sentivolus_block(
     counts: &mut [u32],
     rendered: &mut usize,
 ) -> u32
-    ensures { λ r. ⌜ BlockLeaves (setupOf code rate reference voices channels clean active (now (sections .entry)) gain)
+    ensures { λ r. ⌜ BlockLeaves (setupOf code rate reference voices channels clean active three (now (sections .entry)) gain)
         (blockFrom frames (now (pitch .entry)) steered (now (x .entry)) (now (y .entry)) (now (audio .entry)) (now (counts .entry)))
         (bankOf (now (targets .entry)) (now (records .entry)) (now (delay .entry)) (now (cursor .entry)))
         (now (rendered .entry)) r (now (cursor .exit)) (now (rendered .exit))
@@ -271,6 +283,7 @@ pub extern "C" fn sentivolus_block(
         channels,
         clean,
         active,
+        three,
         sections,
         gain,
     );
@@ -306,7 +319,8 @@ pub extern "C" fn sentivolus_audition(
     channels: usize,
     clean: bool,
     active: u32,
-    sections: &[f32; 160],
+    three: bool,
+    sections: &[f32; 320],
     gain: f32,
     cursor: usize,
     targets: &[f32],
@@ -325,7 +339,7 @@ pub extern "C" fn sentivolus_audition(
     counts: &mut [u32],
     rendered: &mut usize,
 ) -> u32
-    ensures { λ r. ⌜ AuditionLeaves (setupOf code rate reference voices channels clean active (now (sections .entry)) gain)
+    ensures { λ r. ⌜ AuditionLeaves (setupOf code rate reference voices channels clean active three (now (sections .entry)) gain)
         (blockFrom frames (now (pitch .entry)) steered (now (x .entry)) (now (y .entry)) (now (audio .entry)) (now (counts .entry)))
         (bankOf (now («scratch_targets» .entry)) (now («scratch_records» .entry)) (now («scratch_delay» .entry)) (now («scratch_cursor» .entry)))
         (bankOf (now (targets .entry)) (now (records .entry)) (now (delay .entry)) cursor)
@@ -340,6 +354,7 @@ pub extern "C" fn sentivolus_audition(
         channels,
         clean,
         active,
+        three,
         sections,
         gain,
     );
@@ -377,10 +392,11 @@ pub extern "C" fn sentivolus_park_len(
     channels: usize,
     clean: bool,
     active: u32,
-    sections: &[f32; 160],
+    three: bool,
+    sections: &[f32; 320],
     gain: f32,
 ) -> usize
-    ensures { λ r. ⌜ r ≡ parkLength (setupOf code rate reference voices channels clean active (now (sections .entry)) gain) ⌝ }
+    ensures { λ r. ⌜ r ≡ parkLength (setupOf code rate reference voices channels clean active three (now (sections .entry)) gain) ⌝ }
 {
     let s = setup_of(
         code,
@@ -390,6 +406,7 @@ pub extern "C" fn sentivolus_park_len(
         channels,
         clean,
         active,
+        three,
         sections,
         gain,
     );
@@ -406,7 +423,8 @@ pub extern "C" fn sentivolus_park(
     channels: usize,
     clean: bool,
     active: u32,
-    sections: &[f32; 160],
+    three: bool,
+    sections: &[f32; 320],
     gain: f32,
     cursor: usize,
     targets: &[f32],
@@ -414,7 +432,7 @@ pub extern "C" fn sentivolus_park(
     delay: &[f32],
     file: &mut [u8],
 ) -> u32
-    ensures { λ r. ⌜ ParkLeft (setupOf code rate reference voices channels clean active (now (sections .entry)) gain)
+    ensures { λ r. ⌜ ParkLeft (setupOf code rate reference voices channels clean active three (now (sections .entry)) gain)
         (bankOf (now (targets .entry)) (now (records .entry)) (now (delay .entry)) cursor)
         (now (file .entry)) r (now (file .exit)) ⌝ }
 {
@@ -426,6 +444,7 @@ pub extern "C" fn sentivolus_park(
         channels,
         clean,
         active,
+        three,
         sections,
         gain,
     );
@@ -473,11 +492,12 @@ fn put_setup(
     channels: &mut usize,
     clean: &mut bool,
     active: &mut u32,
-    sections: &mut [f32; 160],
+    three: &mut bool,
+    sections: &mut [f32; 320],
     gain: &mut f32,
 )
     ensures { λ _. ⌜ setupOf (now (code .exit)) (now (rate .exit)) (now (reference .exit)) (now (voices .exit)) (now (channels .exit)) (now (clean .exit))
-        (now (active .exit)) (now (sections .exit)) (now (gain .exit)) ≡ setup ⌝ }
+        (now (active .exit)) (now (three .exit)) (now (sections .exit)) (now (gain .exit)) ≡ setup ⌝ }
 {
     let table = setup.table;
     let numbers = table.sections;
@@ -488,6 +508,7 @@ fn put_setup(
     *channels = setup.channels;
     *clean = setup.clean;
     *active = table.active;
+    *three = table.three;
     *sections = numbers;
     *gain = table.gain;
 }
@@ -503,16 +524,17 @@ pub extern "C" fn sentivolus_parked_setup(
     channels: &mut usize,
     clean: &mut bool,
     active: &mut u32,
-    sections: &mut [f32; 160],
+    three: &mut bool,
+    sections: &mut [f32; 320],
     gain: &mut f32,
     cursor: &mut usize,
 ) -> u32
     ensures { λ r. ⌜ SetupLeft (fileVerdict (now (file .entry))) (now (file .entry))
         (setupOf (now (code .entry)) (now (rate .entry)) (now (reference .entry)) (now (voices .entry)) (now (channels .entry)) (now (clean .entry))
-        (now (active .entry)) (now (sections .entry)) (now (gain .entry)))
+        (now (active .entry)) (now (three .entry)) (now (sections .entry)) (now (gain .entry)))
         (now (cursor .entry)) r
         (setupOf (now (code .exit)) (now (rate .exit)) (now (reference .exit)) (now (voices .exit)) (now (channels .exit)) (now (clean .exit))
-        (now (active .exit)) (now (sections .exit)) (now (gain .exit)))
+        (now (active .exit)) (now (three .exit)) (now (sections .exit)) (now (gain .exit)))
         (now (cursor .exit)) ⌝ }
 {
     let kept = *sections;
@@ -524,6 +546,7 @@ pub extern "C" fn sentivolus_parked_setup(
         *channels,
         *clean,
         *active,
+        *three,
         &kept,
         *gain,
     );
@@ -538,6 +561,7 @@ pub extern "C" fn sentivolus_parked_setup(
         channels,
         clean,
         active,
+        three,
         sections,
         gain,
     );
@@ -559,16 +583,17 @@ pub extern "C" fn sentivolus_restore(
     channels: &mut usize,
     clean: &mut bool,
     active: &mut u32,
-    sections: &mut [f32; 160],
+    three: &mut bool,
+    sections: &mut [f32; 320],
     gain: &mut f32,
     cursor: &mut usize,
 ) -> u32
     ensures { λ r. ⌜ RestoreLeft (now (file .entry)) (bankOf (now (targets .entry)) (now (records .entry)) (now (delay .entry)) 0)
         (setupOf (now (code .entry)) (now (rate .entry)) (now (reference .entry)) (now (voices .entry)) (now (channels .entry)) (now (clean .entry))
-        (now (active .entry)) (now (sections .entry)) (now (gain .entry)))
+        (now (active .entry)) (now (three .entry)) (now (sections .entry)) (now (gain .entry)))
         (now (cursor .entry)) r
         (setupOf (now (code .exit)) (now (rate .exit)) (now (reference .exit)) (now (voices .exit)) (now (channels .exit)) (now (clean .exit))
-        (now (active .exit)) (now (sections .exit)) (now (gain .exit)))
+        (now (active .exit)) (now (three .exit)) (now (sections .exit)) (now (gain .exit)))
         (now (cursor .exit)) (now (targets .exit)) (now (records .exit)) (now (delay .exit)) ⌝ }
 {
     let kept = *sections;
@@ -580,6 +605,7 @@ pub extern "C" fn sentivolus_restore(
         *channels,
         *clean,
         *active,
+        *three,
         &kept,
         *gain,
     );
@@ -594,6 +620,7 @@ pub extern "C" fn sentivolus_restore(
         channels,
         clean,
         active,
+        three,
         sections,
         gain,
     );

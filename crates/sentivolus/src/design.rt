@@ -1,4 +1,5 @@
-// The pole-zero design as flat numbers: 32 kind numbers and 128 floats (frequency, Q, a, b), state by state, point by point.
+// The pole-zero design as flat numbers: 64 kind numbers and 256 floats (frequency, Q, a, b), state by state, point by point, four states at z = 0 and four
+// at z = 1, which a design of two axes has no use for.
 ghost use mathlib.Core.Path.{_≡_};
 ghost use Prim.Native.Nat.{_<_};
 ghost use Rattle.points.specs.Points.{sectionOf, values};
@@ -26,8 +27,8 @@ fn kind_of(kind: u32, a: f32, b: f32) -> PointKind
     }
 }
 
-fn point_of(kinds: &[u32; 32], numbers: &[f32; 128], i: usize) -> Point
-    requires { ⌜ i < 32 ⌝ }
+fn point_of(kinds: &[u32; 64], numbers: &[f32; 256], i: usize) -> Point
+    requires { ⌜ i < 64 ⌝ }
     ensures { λ r. ⌜ r ≡ pointOf (now (kinds .entry)) (now (numbers .entry)) i ⌝ }
 {
     let a = numbers[4 * i + 2];
@@ -39,8 +40,8 @@ fn point_of(kinds: &[u32; 32], numbers: &[f32; 128], i: usize) -> Point
     }
 }
 
-fn state_of(kinds: &[u32; 32], numbers: &[f32; 128], s: usize) -> State
-    requires { ⌜ s < 4 ⌝ }
+fn state_of(kinds: &[u32; 64], numbers: &[f32; 256], s: usize) -> State
+    requires { ⌜ s < 8 ⌝ }
     ensures { λ r. ⌜ r ≡ stateOf (now (kinds .entry)) (now (numbers .entry)) s ⌝ }
 {
     State {
@@ -57,8 +58,8 @@ fn state_of(kinds: &[u32; 32], numbers: &[f32; 128], s: usize) -> State
     }
 }
 
-fn design_of(kinds: &[u32; 32], numbers: &[f32; 128], gain_db: f32) -> PoleZeroDesign
-    ensures { λ r. ⌜ r ≡ designOf (now (kinds .entry)) (now (numbers .entry)) «gain_db» ⌝ }
+fn design_of(kinds: &[u32; 64], numbers: &[f32; 256], three: bool, gain_db: f32) -> PoleZeroDesign
+    ensures { λ r. ⌜ r ≡ designOf (now (kinds .entry)) (now (numbers .entry)) three «gain_db» ⌝ }
 {
     PoleZeroDesign {
         states: [
@@ -66,7 +67,12 @@ fn design_of(kinds: &[u32; 32], numbers: &[f32; 128], gain_db: f32) -> PoleZeroD
             state_of(kinds, numbers, 1),
             state_of(kinds, numbers, 2),
             state_of(kinds, numbers, 3),
+            state_of(kinds, numbers, 4),
+            state_of(kinds, numbers, 5),
+            state_of(kinds, numbers, 6),
+            state_of(kinds, numbers, 7),
         ],
+        three: three,
         gain_db: gain_db,
     }
 }
@@ -93,40 +99,43 @@ pub extern "C" fn sentivolus_point(
     *out = v;
 }
 
-// The design's table: 160 numbers, the active sections and the gain.
+// The design's table, with the design's axes: 320 numbers, the active sections and the gain.
 #[no_mangle]
 pub extern "C" fn sentivolus_table(
-    kinds: &[u32; 32],
-    numbers: &[f32; 128],
+    kinds: &[u32; 64],
+    numbers: &[f32; 256],
+    three: bool,
     gain_db: f32,
-    sections: &mut [f32; 160],
+    sections: &mut [f32; 320],
     gain: &mut f32,
 ) -> u32
-    ensures { λ r. ⌜ TableLeft (tableOf (designOf (now (kinds .entry)) (now (numbers .entry)) «gain_db»))
-        r (now (sections .exit)) (now (gain .exit)) ⌝ }
+    ensures { λ r. ⌜ TableLeft (tableOf (designOf (now (kinds .entry)) (now (numbers .entry)) three «gain_db»))
+        r three (now (sections .exit)) (now (gain .exit)) ⌝ }
 {
-    let t = Table::of(design_of(kinds, numbers, gain_db));
+    let t = Table::of(design_of(kinds, numbers, three, gain_db));
     let s = t.sections;
     *sections = s;
     *gain = t.gain;
     t.active
 }
 
-// A point's section at x and y: 0 and its five numbers, or 11 and `out` as it was.
+// A point's section at x, y and z: 0 and its five numbers, or 11 and `out` as it was.
 #[no_mangle]
 pub extern "C" fn sentivolus_section(
-    kinds: &[u32; 32],
-    numbers: &[f32; 128],
+    kinds: &[u32; 64],
+    numbers: &[f32; 256],
+    three: bool,
     gain_db: f32,
     point: usize,
     x: f32,
     y: f32,
+    z: f32,
     out: &mut [f32; 5],
 ) -> u32
-    ensures { λ r. ⌜ SectionLeft (designOf (now (kinds .entry)) (now (numbers .entry)) «gain_db») point x y (now (out .entry))
+    ensures { λ r. ⌜ SectionLeft (designOf (now (kinds .entry)) (now (numbers .entry)) three «gain_db») point x y z (now (out .entry))
         r (now (out .exit)) ⌝ }
 {
-    match design_of(kinds, numbers, gain_db).section(point, x, y) {
+    match design_of(kinds, numbers, three, gain_db).section(point, x, y, z) {
         Answer::Values(s) => {
             let v = s.values();
             *out = v;

@@ -136,7 +136,7 @@ pub extern "C" fn sentivolus_svf(ic1: f32, ic2: f32, x: f32, g: f32, k: f32, out
     *out = numbers;
 }
 
-// The ten targets of nine settings, in the order of VoiceParams.
+// The eleven targets of ten settings, in the order of VoiceParams.
 #[no_mangle]
 pub extern "C" fn sentivolus_targets_of(
     resonance: f32,
@@ -148,10 +148,11 @@ pub extern "C" fn sentivolus_targets_of(
     level: f32,
     morph_x: f32,
     morph_y: f32,
-    out: &mut [f32; 10],
+    morph_z: f32,
+    out: &mut [f32; 11],
 )
     ensures { λ _. ⌜ now (out .exit) ≡ voiceTargets
-        (paramsOf resonance drive saturation character «stereo_offset» mix level «morph_x» «morph_y») ⌝ }
+        (paramsOf resonance drive saturation character «stereo_offset» mix level «morph_x» «morph_y» «morph_z») ⌝ }
 {
     let t = filter::voice_targets(VoiceParams {
         resonance: resonance,
@@ -163,6 +164,7 @@ pub extern "C" fn sentivolus_targets_of(
         level: level,
         morph_x: morph_x,
         morph_y: morph_y,
+        morph_z: morph_z,
     });
     *out = t;
 }

@@ -5,8 +5,10 @@ use mathlib.Core.Bool.{Bool, true, false, _&&_}
 use Prim.Native.Nat.{ℕ, _+_, _*_, _/_, _%_, _≤_, _<_}
 use native.Mathlib.Decide.{decLe}
 use native.Mathlib.Omega.{arith}
-use mathlib.Core.List.{List}
+use mathlib.Core.List.{List, _++_}
 use lib.Dec.{leb, eqb}
+use lib.ListN.{replicate}
+use Rattle.lane.specs.Floats.{zero}
 use Rattle.parts.specs.Laws.{tab-same}
 use Rattle.lines.specs.Lines.{ringLen}
 use Rattle.lines.specs.View.{length-of}
@@ -20,6 +22,7 @@ use Rattle.places.specs.Heads.{headAt}
 use Rattle.places.specs.ByHead.{Shuffled, target-heads, record-heads, ring-head, head-once, once-shuffled, with-shuffled, sound-shuffled, whole-shuffled}
 use Rattle.rows.specs.Rows.{numbersIn}
 use Rattle.rows.specs.Back.{rows-same, numbers-are, parts-hold}
+use Rattle.files.specs.File.{parkedTargets, parkedRecord}
 use Rattle.setups.specs.Setup.{setupCheckOf}
 use Rattle.setups.specs.Accepted.{SetupAccepted, setup-accepted}
 use Rattle.setups.specs.Parked.{setupWord, soloIn, voicesIn, cursorIn, slotsIn, ringIn, bankIn}
@@ -70,8 +73,10 @@ module _ (a b : List ℕ) (sh : Shuffled a b) where
       clean = eqb (word-same 3 (omega arith) t) 1;
       table = record {
         active = word-same 8 (omega arith) t;
+        three = false;
         sections = tab-same (λ i. floatOf (setupWord b (9 + i))) (λ i. floatOf (setupWord a (9 + i))) 160
-            (λ i l. ap floatOf (word-same (9 + i) (omega arith))) t;
+            (λ i l. ap floatOf (word-same (9 + i) (omega arith))) t
+            ++ replicate 160 zero;
         gain = floatOf (word-same 169 (omega arith) t);
       };
     }
@@ -89,15 +94,15 @@ module _ (a b : List ℕ) (sh : Shuffled a b) where
     placed : Placed (numberAt v s p a) (blocksIn a) (total v s p)
     placed = exactly-placed (numberAt v s p a) (blocksIn a) (total v s p) whole
 
-    numbers-same : (first kind rows M q : ℕ) → 0 < M → M ≤ q * 126 → first + rows * q ≤ total v s p
+    numbers-same : (first kind rows C M q : ℕ) → 0 < M → M ≤ q * 126 → first + rows * q ≤ total v s p
         → ((j : ℕ) → j < rows * q → headAt v s p (first + j) ≡ headOf kind (j / q) (j % q))
-        → numbersIn b kind M (rows * M) ≡ numbersIn a kind M (rows * M)
-    numbers-same first kind rows M q some hold fit head =
-        numbers-are b kind M q some hold rows
-        ∙ rows-same M q some hold (λ j. blockWith b (headOf kind (j / q) (j % q))) (λ j. blockWith a (headOf kind (j / q) (j % q))) rows
+        → numbersIn b kind C M (rows * M) ≡ numbersIn a kind C M (rows * M)
+    numbers-same first kind rows C M q some hold fit head =
+        numbers-are b kind C M q some hold rows
+        ∙ rows-same C M q some hold (λ j. blockWith b (headOf kind (j / q) (j % q))) (λ j. blockWith a (headOf kind (j / q) (j % q))) rows
         (λ j l. with-shuffled a b sh (headOf kind (j / q) (j % q))
         (ap (isOnce a) (sym (head j l)) ∙ head-once v s p a few-voices few-slots placed (first + j) (omega arith)))
-        ∙ sym (numbers-are a kind M q some hold rows)
+        ∙ sym (numbers-are a kind C M q some hold rows)
 
   -- ---- the verdict, step by step
 
@@ -158,15 +163,15 @@ module _ (a b : List ℕ) (sh : Shuffled a b) where
         voices = vo;
         bank =
             (λ t. record {
-              targets = numbersIn b 2 targetsWidth (vo t * targetsWidth);
-              records = numbersIn b 3 recordWidth (so t .channels * vo t * recordWidth);
-              delay = numbersIn b 4 (ringLen (so t .rate)) (so t .channels * vo t * ringLen (so t .rate));
+              targets = numbersIn b 2 parkedTargets targetsWidth (vo t * targetsWidth);
+              records = numbersIn b 3 parkedRecord recordWidth (so t .channels * vo t * recordWidth);
+              delay = numbersIn b 4 (ringLen (so t .rate)) (ringLen (so t .rate)) (so t .channels * vo t * ringLen (so t .rate));
               cursor = cursor-same (o .0) (o .1) t;
             })
             ∙ (λ t. record {
-              targets = numbers-same v s p hv hs whole 2 2 v targetsWidth 1 (omega arith) (omega arith) (omega arith) (target-heads v s p) t;
-              records = numbers-same v s p hv hs whole (2 + v) 3 s recordWidth 1 (omega arith) (omega arith) (omega arith) (record-heads v s p) t;
-              delay = numbers-same v s p hv hs whole (2 + v + s) 4 s L p some (parts-hold L) (omega arith) (λ j l. ring-head v s p j) t;
+              targets = numbers-same v s p hv hs whole 2 2 v parkedTargets targetsWidth 1 (omega arith) (omega arith) (omega arith) (target-heads v s p) t;
+              records = numbers-same v s p hv hs whole (2 + v) 3 s parkedRecord recordWidth 1 (omega arith) (omega arith) (omega arith) (record-heads v s p) t;
+              delay = numbers-same v s p hv hs whole (2 + v + s) 4 s L L p some (parts-hold L) (omega arith) (λ j l. ring-head v s p j) t;
               cursor = cursorIn a;
             });
       }

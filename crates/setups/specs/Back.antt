@@ -1,22 +1,23 @@
 -- Restoring what was parked (document 02, C-12: "Restoring what was parked gives the same bank bit by bit"): the statement, then its proof. Each word and
--- each number is read from the block that it was written to, and an f32 comes back from its word. Assumes nothing.
+-- each number is read from the block that it was written to, and an f32 comes back from its word; the numbers that no block carries were +0, and of the
+-- table the face that is not heard comes back as 0 (C-17). Assumes nothing.
 use mathlib.Core.Path.{_≡_, refl, sym, ap, _∙_, subst}
-use mathlib.Core.Bool.{Bool, true, false}
+use mathlib.Core.Bool.{Bool, true, false, cond}
 use Prim.Native.Nat.{ℕ, _+_, _-_, _*_, _/_, _%_, _<_}
 use native.Mathlib.Omega.{arith}
 use mathlib.Core.List.{List, [], _∷_, _++_}
 use lib.Dec.{T, leb, eqb}
-use lib.ListN.{length, getD, length-append, List·getD-append}
-use lib.Seq.{ext-getD, getD-at, getD-append-add}
-use lib.Ieee.{nan, binary32, fits}
+use lib.ListN.{length, getD, replicate, length-append, List·getD-append}
+use lib.Seq.{getD-at, getD-append-add}
+use lib.Ieee.{binary32, fits}
 use borrow.Author.Tests.{eq-eqb, eqb-true}
-use Rattle.lane.specs.Floats.{_‼_}
+use Rattle.lane.specs.Floats.{_‼_, zero}
 use Rattle.parts.specs.Parts.{tab}
-use Rattle.parts.specs.Laws.{tab-at, length-tab}
+use Rattle.parts.specs.Laws.{tab-at, tab-same, length-tab}
 use Rattle.text.specs.Text.{bitsOf}
 use Rattle.lines.specs.Lines.{ringLen}
 use Rattle.lines.specs.View.{length-of}
-use Rattle.voices.specs.Calls.{targetsWidth, recordWidth, fine, check, _then_, Bank, storeCheckOf}
+use Rattle.voices.specs.Calls.{targetsWidth, recordWidth, targetZ, recordZ, fine, check, _then_, Bank, isClear, isFlat, storeCheckOf}
 use Rattle.voices.specs.Accepted.{check-fine, and-true}
 use Rattle.file_words.specs.Words.{floatOf}
 use Rattle.file_words.specs.Laws.{float-of-bits}
@@ -24,32 +25,36 @@ use Rattle.blocks.specs.Blocks.{partsOf}
 use Rattle.places.specs.Places.{isWhole}
 use Rattle.rows.specs.Rows.{numbersIn}
 use Rattle.rows.specs.Back.{F32s, parts-hold}
+use Rattle.files.specs.File.{parkedTargets, parkedRecord}
 use Rattle.files.specs.Image.{Image, imageFile, Whole}
 use Rattle.files.specs.Asks.{imageOf}
 use Rattle.files.specs.Same.{file-is}
 use Rattle.files.specs.Trip.{setup-back, targets-back, records-back, delay-back, setup-once, parked-whole, parked-multiple, parked-sums}
-use Rattle.setups.specs.Setup.{SoloSetup, setupCheckOf}
+use Rattle.setups.specs.Setup.{SoloSetup, heardTable, heard, setupCheckOf}
+use Rattle.setups.specs.Heard.{heard-check}
 use Rattle.setups.specs.Accepted.{SetupAccepted, setup-accepted}
 use Rattle.setups.specs.Parked.{cleanWord, frontWords, setupWords, parkedFile, setupWord, soloIn, voicesIn, cursorIn}
 use Rattle.setups.specs.Parked.{bankIn, fileVerdict, Holds}
 
--- numbers that are f32s, as every slice's and struct's in the code are; a table has 160
+-- numbers that are f32s, as every slice's and struct's in the code are; a table has 320
 pub record F32Setup (s : SoloSetup) : Type 0 where
   pub rate : T (fits binary32 (s .rate))
   pub reference : T (fits binary32 (s .reference))
   pub gain : T (fits binary32 (s .table .gain))
   pub sections : F32s (s .table .sections)
-  pub length-sections : length (s .table .sections) ≡ 160
+  pub length-sections : length (s .table .sections) ≡ 320
 
 pub record F32Bank (b : Bank) : Type 0 where
   pub targets : F32s (b .targets)
   pub records : F32s (b .records)
   pub delay : F32s (b .delay)
 
--- What parking writes of an accepted setup and lists as long as it asks holds that setup and that bank.
+-- What parking writes of an accepted setup of two axes, and of lists as long as it asks whose z numbers have no bit set (C-17), holds that setup as it is
+-- heard and that bank.
 abbrev pub ParkedHolds : SoloSetup → (n : ℕ) → Bank → Type 0
 ParkedHolds s n b =
-    setupCheckOf s n ≡ fine → storeCheckOf (s .channels) (ringLen (s .rate)) n b ≡ fine → F32Setup s → F32Bank b
+    setupCheckOf s n ≡ fine → storeCheckOf (s .channels) (ringLen (s .rate)) n b ≡ fine
+    → s .table .three ≡ false → isFlat (s .channels) n b ≡ true → F32Setup s → F32Bank b
     → Holds (parkedFile s n b) s n b
 
 -- ---- the setup's words
@@ -104,19 +109,16 @@ module _ (file : List ℕ) (s : SoloSetup) (n cursor : ℕ) (good : F32Setup s)
   front-at : (i : ℕ) → i < 9 → setupWord file i ≡ getD (frontWords s n cursor) i 0
   front-at i l = at i (omega arith) ∙ front-word s n cursor i l
 
-  sections-back : tab (λ i. floatOf (setupWord file (9 + i))) 160 ≡ s .table .sections
-  sections-back =
-      ext-getD nan (tab (λ i. floatOf (setupWord file (9 + i))) 160) (s .table .sections)
-      (length-tab (λ i. floatOf (setupWord file (9 + i))) 160 ∙ sym (good .length-sections))
+  near-back : tab (λ i. floatOf (setupWord file (9 + i))) 160 ≡ tab (λ i. s .table .sections ‼ i) 160
+  near-back =
+      tab-same (λ i. floatOf (setupWord file (9 + i))) (λ i. s .table .sections ‼ i) 160
       (λ i l.
-      let li : i < 160 = subst (λ (m : ℕ). i < m) (length-tab (λ i. floatOf (setupWord file (9 + i))) 160) l in
-      tab-at (λ i. floatOf (setupWord file (9 + i))) 160 i nan li
-      ∙ ap floatOf (at (9 + i) (omega arith) ∙ section-word s n cursor i li)
-      ∙ float-of-bits (s .table .sections ‼ i) (good .sections i (subst (λ (m : ℕ). i < m) (sym (good .length-sections)) li)))
+      ap floatOf (at (9 + i) (omega arith) ∙ section-word s n cursor i l)
+      ∙ float-of-bits (s .table .sections ‼ i) (good .sections i (omega (arith, good .length-sections))))
 
-  solo-back : soloIn file ≡ s
-  unfolding soloIn frontWords
-  solo-back = λ t. record {
+  solo-back : s .table .three ≡ false → soloIn file ≡ heard s
+  unfolding soloIn frontWords heardTable
+  solo-back two = λ t. record {
     code = front-at 0 (omega arith) t;
     rate = (ap floatOf (front-at 4 (omega arith)) ∙ float-of-bits (s .rate) (good .rate)) t;
     reference = (ap floatOf (front-at 5 (omega arith)) ∙ float-of-bits (s .reference) (good .reference)) t;
@@ -124,7 +126,11 @@ module _ (file : List ℕ) (s : SoloSetup) (n cursor : ℕ) (good : F32Setup s)
     clean = (ap (λ (x : ℕ). eqb x 1) (front-at 3 (omega arith)) ∙ clean-back (s .clean)) t;
     table = record {
       active = front-at 8 (omega arith) t;
-      sections = sections-back t;
+      three = sym two t;
+      sections =
+          ((λ u. near-back u ++ replicate 160 zero)
+          ∙ sym (ap (λ (x : Bool). cond x (s .table .sections) (tab (λ i. s .table .sections ‼ i) 160 ++ replicate 160 zero)) two))
+          t;
       gain = (ap floatOf (at 169 (omega arith) ∙ gain-word s n cursor) ∙ float-of-bits (s .table .gain) (good .gain)) t;
     };
   }
@@ -181,7 +187,8 @@ module _ (s : SoloSetup) (n : ℕ) (b : Bank) where
   unfolding parkedFile
   parked-is = file-is n (s .channels * n) (ringLen (s .rate)) (setupWords s n (b .cursor)) (b .targets) (b .records) (b .delay)
 
-  module _ (ok : setupCheckOf s n ≡ fine) (st : storeCheckOf (s .channels) (ringLen (s .rate)) n b ≡ fine) (fs : F32Setup s) (fb : F32Bank b) where
+  module _ (ok : setupCheckOf s n ≡ fine) (st : storeCheckOf (s .channels) (ringLen (s .rate)) n b ≡ fine) (two : s .table .three ≡ false)
+      (flat : isFlat (s .channels) n b ≡ true) (fs : F32Setup s) (fb : F32Bank b) where
     w : Whole parkedImage
     w = image-whole ok st
 
@@ -192,30 +199,33 @@ module _ (s : SoloSetup) (n : ℕ) (b : Bank) where
     unfolding setupWord
     word-at i l = setup-back parkedImage w i l
 
-    solo : soloIn F ≡ s
-    solo = solo-back F s n (b .cursor) fs word-at
+    solo : soloIn F ≡ heard s
+    solo = solo-back F s n (b .cursor) fs word-at two
 
     voices : voicesIn F ≡ n
     voices = voices-back F s n (b .cursor) fs word-at
+
+    clear : (isClear targetsWidth targetZ n (b .targets) ≡ true) × (isClear recordWidth recordZ (s .channels * n) (b .records) ≡ true)
+    clear = and-true _ _ flat
 
     bank : bankIn F ≡ b
     unfolding bankIn
     bank =
         (λ t. record {
-          targets = numbersIn F 2 targetsWidth (voices t * targetsWidth);
-          records = numbersIn F 3 recordWidth (solo t .channels * voices t * recordWidth);
-          delay = numbersIn F 4 (ringLen (solo t .rate)) (solo t .channels * voices t * ringLen (solo t .rate));
+          targets = numbersIn F 2 parkedTargets targetsWidth (voices t * targetsWidth);
+          records = numbersIn F 3 parkedRecord recordWidth (solo t .channels * voices t * recordWidth);
+          delay = numbersIn F 4 (ringLen (solo t .rate)) (ringLen (solo t .rate)) (solo t .channels * voices t * ringLen (solo t .rate));
           cursor = cursor-back F s n (b .cursor) fs word-at t;
         })
         ∙ (λ t. record {
-          targets = targets-back parkedImage w (fb .targets) t;
-          records = records-back parkedImage w (fb .records) t;
+          targets = targets-back parkedImage w (fb .targets) (clear .0) t;
+          records = records-back parkedImage w (fb .records) (clear .1) t;
           delay = delay-back parkedImage w (fb .delay) t;
           cursor = b .cursor;
         })
 
     setup-is : setupCheckOf (soloIn F) (voicesIn F) ≡ fine
-    setup-is = (λ t. setupCheckOf (solo t) (voices t)) ∙ ok
+    setup-is = (λ t. setupCheckOf (solo t) (voices t)) ∙ heard-check s n ∙ ok
 
     blocks-are : isWhole (voicesIn F) (soloIn F .channels * voicesIn F) (partsOf (ringLen (soloIn F .rate))) F ≡ true
     blocks-are = (λ t. isWhole (voices t) (solo t .channels * voices t) (partsOf (ringLen (solo t .rate))) F) ∙ parked-whole parkedImage w
@@ -237,4 +247,4 @@ module _ (s : SoloSetup) (n : ℕ) (b : Bank) where
     holds = subst (λ (f : List ℕ). Holds f s n b) (sym parked-is) (record { setup = solo; voices = voices; bank = bank; accepted = verdict })
 
 pub parked-holds : (s : SoloSetup) (n : ℕ) (b : Bank) → ParkedHolds s n b
-parked-holds s n b ok st fs fb = holds s n b ok st fs fb
+parked-holds s n b ok st two flat fs fb = holds s n b ok st two flat fs fb

@@ -2,6 +2,7 @@
 pub mod Setup
 pub mod Order
 pub mod Parked
+pub mod Heard
 pub mod Back
 pub mod AnyOrder
 pub mod Accepted

@@ -1,12 +1,12 @@
--- A bank as a parked file, and the reader (document 02, C-12). n voices; the words of a file are read from the blocks that carry their heads, wherever
+-- A bank as a parked file, and the reader (document 02, C-12 and C-17). n voices; the words of a file are read from the blocks that carry their heads, wherever
 -- these stand. 4294967296 is 2 ^ 32. Definitions only.
 use mathlib.Core.Path.{_≡_}
 use Prim.Native.Nat.{ℕ, _+_, _*_, _/_, _%_}
 use mathlib.Core.Bool.{Bool, true, false, _&&_}
 use mathlib.Core.List.{List, [], _∷_, _++_}
 use lib.Dec.{leb, eqb}
-use lib.ListN.{length}
-use Rattle.lane.specs.Floats.{_‼_}
+use lib.ListN.{length, replicate}
+use Rattle.lane.specs.Floats.{_‼_, zero}
 use Rattle.parts.specs.Parts.{tab}
 use Rattle.text.specs.Text.{bitsOf}
 use Rattle.lines.specs.Lines.{ringLen}
@@ -15,8 +15,8 @@ use Rattle.file_words.specs.Words.{floatOf}
 use Rattle.blocks.specs.Blocks.{headOf, contentAt, partsOf}
 use Rattle.places.specs.Places.{soundFile, isOnce, isWhole, blockWith}
 use Rattle.rows.specs.Rows.{numbersIn}
-use Rattle.files.specs.File.{fileOf}
-use Rattle.setups.specs.Setup.{SoloSetup, setupCheckOf}
+use Rattle.files.specs.File.{parkedTargets, parkedRecord, fileOf}
+use Rattle.setups.specs.Setup.{SoloSetup, heard, setupCheckOf}
 
 -- ---- parking
 
@@ -52,6 +52,7 @@ parkedFile s n b = fileOf n (s .channels * n) (ringLen (s .rate)) (setupWords s 
 unfoldable pub setupWord : List ℕ → ℕ → ℕ
 setupWord file i = contentAt (blockWith file (headOf 1 0 (i / 126))) (i % 126)
 
+-- C-17: a parked setup has two axes, its z = 1 face is 0
 unfoldable pub soloIn : List ℕ → SoloSetup
 soloIn file = record {
   code = setupWord file 0;
@@ -61,7 +62,8 @@ soloIn file = record {
   clean = eqb (setupWord file 3) 1;
   table = record {
     active = setupWord file 8;
-    sections = tab (λ i. floatOf (setupWord file (9 + i))) 160;
+    three = false;
+    sections = tab (λ i. floatOf (setupWord file (9 + i))) 160 ++ replicate 160 zero;
     gain = floatOf (setupWord file 169);
   };
 }
@@ -81,9 +83,9 @@ ringIn file = ringLen (soloIn file .rate)
 
 unfoldable pub bankIn : List ℕ → Bank
 bankIn file = record {
-  targets = numbersIn file 2 targetsWidth (voicesIn file * targetsWidth);
-  records = numbersIn file 3 recordWidth (slotsIn file * recordWidth);
-  delay = numbersIn file 4 (ringIn file) (slotsIn file * ringIn file);
+  targets = numbersIn file 2 parkedTargets targetsWidth (voicesIn file * targetsWidth);
+  records = numbersIn file 3 parkedRecord recordWidth (slotsIn file * recordWidth);
+  delay = numbersIn file 4 (ringIn file) (ringIn file) (slotsIn file * ringIn file);
   cursor = cursorIn file;
 }
 
@@ -111,9 +113,9 @@ restoreVerdict file lent = fileVerdict file then storeCheckOf (soloIn file .chan
 
 -- ---- "Restoring what was parked"
 
--- the file holds the setup s with n voices and the bank b, and is refused for nothing but the lists that the reader is lent
+-- the file holds what is heard of the setup s (C-17), with n voices, and the bank b, and is refused for nothing but the lists that the reader is lent
 pub record Holds (file : List ℕ) (s : SoloSetup) (n : ℕ) (b : Bank) : Type 0 where
-  pub setup : soloIn file ≡ s
+  pub setup : soloIn file ≡ heard s
   pub voices : voicesIn file ≡ n
   pub bank : bankIn file ≡ b
   pub accepted : fileVerdict file ≡ fine

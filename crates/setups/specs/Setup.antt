@@ -1,9 +1,12 @@
--- The setup without its voices, and its refusals (document 01, 'A bank is opened'). Definitions only.
+-- The setup without its voices, and its refusals (document 01, 'A bank is opened'; document 02, C-17). Definitions only.
 use Prim.Native.Nat.{ℕ}
-use mathlib.Core.Bool.{Bool, not, _&&_, _||_}
+use mathlib.Core.Bool.{Bool, cond, not, _&&_, _||_}
+use mathlib.Core.List.{_++_}
 use lib.Dec.{leb}
+use lib.ListN.{replicate}
 use lib.Ieee.{Float, lt, isNan}
-use Rattle.lane.specs.Floats.{whole, one}
+use Rattle.lane.specs.Floats.{_‼_, whole, zero, one}
+use Rattle.parts.specs.Parts.{tab}
 use Rattle.lines.specs.Lines.{rateRefused}
 use Rattle.pole_zero.specs.declared.Table.{Table}
 use Rattle.voices.specs.Calls.{Check, check, _then_}
@@ -16,6 +19,26 @@ pub record SoloSetup : Type 0 where
   pub channels : ℕ
   pub clean : Bool
   pub table : Table
+
+-- C-17: what is heard of a table: with two axes the z = 1 face is ignored, here 0
+unfoldable pub heardTable : Table → Table
+heardTable t = record {
+  active = t .active;
+  three = t .three;
+  sections = cond (t .three) (t .sections) (tab (λ i. t .sections ‼ i) 160 ++ replicate 160 zero);
+  gain = t .gain;
+}
+
+-- and of a setup
+abbrev pub heard : SoloSetup → SoloSetup
+heard s = record {
+  code = s .code;
+  rate = s .rate;
+  reference = s .reference;
+  channels = s .channels;
+  clean = s .clean;
+  table = heardTable (s .table);
+}
 
 -- ---- refusals 1 to 5, in the table's order
 

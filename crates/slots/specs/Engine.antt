@@ -1,4 +1,4 @@
--- The engine of a setup: what the layers below make of the setup without its polyphony (document 01, 'A bank is opened'; document 02, C-12).
+-- The engine of a setup: what the layers below make of the setup without its polyphony (document 01, 'A bank is opened'; document 02, C-12, C-17).
 -- Definitions only.
 use mathlib.Core.Path.{_≡_}
 use Prim.Native.Nat.{ℕ}
@@ -10,7 +10,7 @@ use Rattle.filter.specs.declared.VoiceParams.{VoiceParams}
 use Rattle.filter.specs.Voice.{defaultParams, voiceTargets, nanKnob}
 use Rattle.extended.specs.Extended.{linesMark}
 use Rattle.run.specs.Run.{constantsOf, signOf, tickWith}
-use Rattle.setups.specs.Setup.{SoloSetup, setupCheckOf}
+use Rattle.setups.specs.Setup.{SoloSetup, heard, setupCheckOf}
 use Rattle.setups.specs.Parked.{soloIn, voicesIn, bankIn, restoreVerdict}
 use Rattle.voices.specs.Calls.{Steering, Tick, Engine}
 
@@ -32,8 +32,9 @@ engineOf s = record {
   ringLength = ringLen (s .rate);
   lines = linesMark (s .code);
   setupCheck = setupCheckOf s;
+  parkable = not (s .table .three);
   restoreVerdict = restoreVerdict;
   bankIn = bankIn;
-  OwnSetup = λ n file. (soloIn file ≡ s) × (voicesIn file ≡ n);
+  OwnSetup = λ n file. (soloIn file ≡ heard s) × (voicesIn file ≡ n);
   tick = tickOf s;
 }

@@ -110,7 +110,7 @@ slot-is E n q tg cur c v w s goals start l records counts hs hg hr hl hp hk =
       counts = (hk ∙ (λ j. set (w .counts) (hs j) (z j .count))) i;
     }
 
--- the ten numbers where voice v's targets stand are its piece
+-- the numbers where voice v's targets stand are its piece
 pub targets-piece : (v from : ℕ) (xs goals : List Float)
     → from ≡ v * targetsWidth → goals ≡ take targetsWidth (drop from xs) → goals ≡ piece targetsWidth v xs
 unfolding piece

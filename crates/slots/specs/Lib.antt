@@ -1,5 +1,6 @@
 -- To be read: Engine.
 pub mod Engine
 pub mod Laws
+pub mod Heard
 pub mod Slots
 pub mod Frame

@@ -1,6 +1,7 @@
 // The slots of a bank's lent lists: one slot started, one slot's frames, and a block through all slots.
 ghost use mathlib.Core.Path.{_≡_};
 ghost use mathlib.Core.Bool.{true, cond};
+ghost use mathlib.Core.List.{[], _∷_, _++_};
 ghost use Prim.Native.Nat.{ℕ, _+_, _*_, _%_, _^_, _<_, _≤_};
 ghost use lib.Ieee.{Float};
 ghost use lib.ListN.{length, replicate, take, drop, set};
@@ -8,7 +9,7 @@ ghost use lib.Seq.{paste};
 ghost use Rattle.parts.specs.Parts.{upto, patch};
 ghost use Rattle.lane.specs.Floats.{_‼_, zero};
 ghost use Rattle.extended.specs.Extended.{linesMark};
-ghost use Rattle.voices.specs.Calls.{recordWidth, statesWidth, blockOf};
+ghost use Rattle.voices.specs.Calls.{smoothedWidth, statesWidth, recordWidth, recordZ, blockOf};
 ghost use Rattle.peak.specs.Running.{runningOf, settledOf, Runs};
 ghost use Rattle.run.specs.Contracts.{Keeps, Widths, recordOf};
 ghost use Rattle.slots.specs.Slots.{engineAt, blockOn, bankAt, blockRun, slotRun, Worked, Placed, Buffers, Lists};
@@ -18,9 +19,14 @@ use lines::Ring;
 use run::FrameInput;
 use run::Structure;
 use voices::RECORD_WIDTH;
+use voices::TARGETS_WIDTH;
 
-// Where a record has its slot's peak.
-const PEAK: usize = RECORD_WIDTH - 1;
+// Where a record has its slot's peak and smoothed z, which is the last of the smoothed numbers.
+const PEAK: usize = RECORD_WIDTH - 2;
+
+const RECORD_Z: usize = RECORD_WIDTH - 1;
+
+const LAST: usize = TARGETS_WIDTH - 1;
 
 // The place of a column in a row, of a list of so many rows.
 pub fn place_at(row: usize, width: usize, column: usize, rows: usize, len: usize) -> usize
@@ -50,13 +56,23 @@ pub fn copy(list: &[f32], from: usize, into: &mut [f32], to: usize, n: usize)
     }
 }
 
-// Ten numbers of a list: a voice's targets, or a slot's smoothed and morph numbers.
-pub fn load_ten(list: &[f32], at: usize) -> [f32; 10]
-    requires { ⌜ at + 10 ≤ length (now list) ⌝ }
-    ensures { λ r. ⌜ r ≡ take 10 (drop at (now (list .entry))) ⌝ }
+// A voice's targets.
+pub fn load_targets(list: &[f32], at: usize) -> [f32; 11]
+    requires { ⌜ at + 11 ≤ length (now list) ⌝ }
+    ensures { λ r. ⌜ r ≡ take 11 (drop at (now (list .entry))) ⌝ }
 {
-    let mut into = [0.0f32; 10];
-    copy(list, at, &mut into, 0, 10);
+    let mut into = [0.0f32; 11];
+    copy(list, at, &mut into, 0, 11);
+    into
+}
+
+// A slot's smoothed numbers: ten in front, z after its states and peak.
+fn load_smoothed(list: &[f32], at: usize) -> [f32; 11]
+    requires { ⌜ at + recordWidth ≤ length (now list) ⌝ }
+    ensures { λ r. ⌜ r ≡ take smoothedWidth (drop at (now (list .entry))) ++ now (list .entry) ‼ (at + recordZ) ∷ [] ⌝ }
+{
+    let mut into = load_targets(list, at);
+    into[LAST] = list[at + RECORD_Z];
     into
 }
 
@@ -71,7 +87,7 @@ fn load_states(list: &[f32], at: usize) -> [f32; 20]
 }
 
 // Stores a slot's record.
-fn store_record(records: &mut [f32], slot: usize, params: &[f32; 10], state: &[f32; 20], peak: f32)
+fn store_record(records: &mut [f32], slot: usize, params: &[f32; 11], state: &[f32; 20], peak: f32)
     requires { ⌜ slot * recordWidth + recordWidth ≤ length (now records) ⌝ }
     ensures { λ _. ⌜ now (records .exit) ≡ patch recordWidth slot (recordOf (now (params .entry)) (now (state .entry)) peak) (now (records .entry)) ⌝ }
 {
@@ -79,6 +95,7 @@ fn store_record(records: &mut [f32], slot: usize, params: &[f32; 10], state: &[f
     copy(params, 0, records, at, 10);
     copy(state, 0, records, at + 10, 20);
     records[at + PEAK] = peak;
+    records[at + RECORD_Z] = params[LAST];
 }
 
 // Zeroes a slot's ring.
@@ -94,9 +111,9 @@ fn zero_ring(delay: &mut [f32], slot: usize, len: usize)
     }
 }
 
-// Starts a slot: a voice's targets to its smoothed and morph numbers, states, peak and ring zero.
+// Starts a slot: a voice's targets to its smoothed numbers, states, peak and ring zero.
 pub fn start_slot(
-    targets: &[f32; 10],
+    targets: &[f32; 11],
     records: &mut [f32],
     delay: &mut [f32],
     slot: usize,
@@ -175,12 +192,12 @@ fn steering_at(steered: bool, list: &[f32], i: usize) -> f32
 // hold the numbers kept from frame to frame, `peak` what runs in the peak's place.
 fn frame(
     e: Prepared,
-    sections: &[f32; 160],
+    sections: &[f32; 320],
     tuning: &mut [f32; 10],
-    blended: &mut [f32; 43],
+    blended: &mut [f32; 44],
     over: &mut u32,
-    targets: &[f32; 10],
-    params: &mut [f32; 10],
+    targets: &[f32; 11],
+    params: &mut [f32; 11],
     state: &mut [f32; 20],
     peak: &mut f32,
     delay: &mut [f32],
@@ -241,12 +258,12 @@ fn frame(
 // The frames of a slot, with the slot's record in hand: the slot's count.
 fn run_frames(
     e: Prepared,
-    sections: &[f32; 160],
+    sections: &[f32; 320],
     tuning: &mut [f32; 10],
-    blended: &mut [f32; 43],
+    blended: &mut [f32; 44],
     over: &mut u32,
-    targets: &[f32; 10],
-    params: &mut [f32; 10],
+    targets: &[f32; 11],
+    params: &mut [f32; 11],
     state: &mut [f32; 20],
     peak: &mut f32,
     delay: &mut [f32],
@@ -309,7 +326,7 @@ fn hold_peak(records: &mut [f32], at: usize) -> f32
 // the list itself: in a register it would take the place of a number that every frame reads.
 fn run_slot(
     e: Prepared,
-    sections: &[f32; 160],
+    sections: &[f32; 320],
     targets: &[f32],
     records: &mut [f32],
     delay: &mut [f32],
@@ -326,14 +343,14 @@ fn run_slot(
         ≡ slotIn e (now (sections .entry)) (now (targets .entry)) (now (pitch .entry)) (now (x .entry)) (now (y .entry)) (p .channel) (p .voice)
         (blockRun (now (records .entry)) (now (delay .entry)) (now (audio .entry)) (now (counts .entry))) ⌝ }
 {
-    let from = start_of(p.voice, 10, e.voices, targets.len());
+    let from = start_of(p.voice, TARGETS_WIDTH, e.voices, targets.len());
     let at = start_of(p.number, RECORD_WIDTH, e.slots, records.len());
-    let goals = load_ten(targets, from);
-    let mut params = load_ten(records, at);
+    let goals = load_targets(targets, from);
+    let mut params = load_smoothed(records, at);
     let mut state = load_states(records, at + 10);
     let peak = hold_peak(records, at + PEAK);
     let mut tuning = [0.0f32 / 0.0; 10];
-    let mut blended = [0.0f32 / 0.0; 43];
+    let mut blended = [0.0f32 / 0.0; 44];
     let mut over: u32 = 0;
     let count = run_frames(
         e,
@@ -361,7 +378,7 @@ fn run_slot(
 // A block through the slots of one channel.
 fn run_channel(
     e: Prepared,
-    sections: &[f32; 160],
+    sections: &[f32; 320],
     targets: &[f32],
     records: &mut [f32],
     delay: &mut [f32],
@@ -402,7 +419,7 @@ fn run_channel(
 // A block through every slot.
 pub fn run_block(
     e: Prepared,
-    sections: &[f32; 160],
+    sections: &[f32; 320],
     targets: &[f32],
     records: &mut [f32],
     delay: &mut [f32],

@@ -1,4 +1,4 @@
--- The bank's calls on flat lists (document 01, 'A bank is opened' and 'One block goes through'; document 02, C-11, C-12, C-15, C-16). Definitions only.
+-- The bank's calls on flat lists (document 01, 'A bank is opened' and 'One block goes through'; document 02, C-11, C-12, C-15 to C-17). Definitions only.
 -- What the layers below make of a setup (its checks, targets_of, one tick) is an `Engine`; polyphony is the number n.
 use mathlib.Core.Path.{_≡_}
 use Prim.Native.Nat.{ℕ, _+_, _*_, _%_, _^_, _<_}
@@ -7,24 +7,37 @@ use mathlib.Core.Option.{Option, none, some}
 use mathlib.Core.List.{List, [], _∷_, _++_}
 use lib.Ieee.{Float}
 use lib.Dec.{ltb, leb, eqb}
-use lib.ListN.{length, set, replicate}
+use lib.ListN.{length, set, take, replicate}
 use Rattle.lane.specs.Floats.{_‼_, zero}
 use Rattle.parts.specs.Parts.{upto, piece, patch}
+use Rattle.text.specs.Text.{bitsOf}
 use Rattle.blocks.specs.Blocks.{partsOf, total}
+use Rattle.places.specs.Places.{every}
 
 -- ---- widths of the lent lists (A bank is opened)
 
--- numbers a voice in targets: 8 of targets_of, 2 of morph_targets_of
+-- numbers that a slot's record begins with: 8 smoothed and 2 morph
+abbrev pub smoothedWidth : ℕ
+smoothedWidth = 10
+
+-- numbers a voice in targets: 8 of targets_of, 2 of morph_targets_of, and z (C-17)
 abbrev pub targetsWidth : ℕ
-targetsWidth = 10
+targetsWidth = smoothedWidth + 1
 
 -- numbers of state a slot
 abbrev pub statesWidth : ℕ
 statesWidth = 20
 
--- numbers a slot in records: 8 smoothed and 2 morph, the states, and the peak (C-15)
+-- numbers a slot in records: 8 smoothed and 2 morph, the states, the peak (C-15) and the smoothed z (C-17)
 abbrev pub recordWidth : ℕ
-recordWidth = targetsWidth + statesWidth + 1
+recordWidth = smoothedWidth + statesWidth + 2
+
+-- where z stands (C-17): a voice's eleventh target, a record's thirty-second number
+abbrev pub targetZ : ℕ
+targetZ = smoothedWidth
+
+abbrev pub recordZ : ℕ
+recordZ = smoothedWidth + statesWidth + 1
 
 -- frames of a block
 abbrev pub leastFrames : ℕ
@@ -66,6 +79,14 @@ areLong channels ringLength n b =
     && eqb (length (b .records)) (channels * n * recordWidth)
     && eqb (length (b .delay)) (channels * n * ringLength)
 
+-- the number at one place of each of so many rows has no bit set: it is +0, not -0
+unfoldable pub isClear : (width place rows : ℕ) → List Float → Bool
+isClear width place rows xs = every (λ i. eqb (bitsOf (xs ‼ (i * width + place))) 0) rows
+
+-- so of z (C-17), of every voice's targets and of every slot's record
+abbrev pub isFlat : (channels n : ℕ) → Bank → Bool
+isFlat channels n b = isClear targetsWidth targetZ n (b .targets) && isClear recordWidth recordZ (channels * n) (b .records)
+
 -- 6
 abbrev pub storeCheckOf : (channels ringLength n : ℕ) → Bank → Check
 storeCheckOf channels ringLength n b = check (areLong channels ringLength n b) 6
@@ -84,7 +105,7 @@ pub record Tick : Type 0 where
   pub over : ℕ
 
 pub record Engine : Type 1 where
-  -- a voice's settings (VoiceParams), their defaults, whether no knob is NaN, and their ten targets
+  -- a voice's settings (VoiceParams), their defaults, whether no knob is NaN, and their eleven targets
   pub S : Type 0
   pub defaults : S
   pub knobs : S → Bool
@@ -95,6 +116,8 @@ pub record Engine : Type 1 where
   pub lines : Bool
   -- refusals 1 to 5 of the setup with n voices
   pub setupCheck : (n : ℕ) → Check
+  -- whether a parked file has words for the setup: its table has two axes (C-17)
+  pub parkable : Bool
   -- of a parked file (C-12): what the reader's checks come to with the lists that it is lent, the bank that it holds, and that its setup is this one
   -- with n voices
   pub restoreVerdict : (file : List ℕ) (lent : Bank) → Check
@@ -162,15 +185,15 @@ pub record SlotRun : Type 0 where
   pub count : ℕ
 
 module _ (E : Engine) where
-  open Engine E using (S, defaults, knobs, targetsOf, channels, ringLength, lines, setupCheck, restoreVerdict, bankIn, OwnSetup, tick)
+  open Engine E using (S, defaults, knobs, targetsOf, channels, ringLength, lines, setupCheck, parkable, restoreVerdict, bankIn, OwnSetup, tick)
 
   -- the cursor k frames on: wraps at the machine word if LINES, else stays
   unfoldable pub cursorAfter : ℕ → ℕ → ℕ
   cursorAfter cur k = cond lines ((cur + k) % 2 ^ 64) cur
 
-  -- a slot started: targets as smoothed and morph numbers, states +0, the peak cleared to +0 (C-15)
+  -- a slot started: targets as smoothed and morph numbers, states +0, the peak cleared to +0 (C-15), z copied too (C-17)
   abbrev pub startRecord : List Float → List Float
-  startRecord tg = tg ++ replicate statesWidth zero ++ zero ∷ []
+  startRecord tg = take smoothedWidth tg ++ replicate statesWidth zero ++ zero ∷ tg ‼ targetZ ∷ []
 
   abbrev pub startRing : List Float
   startRing = replicate ringLength zero
@@ -234,7 +257,11 @@ module _ (E : Engine) where
     abbrev pub scratchCheck : Bank → Check
     scratchCheck scratch = check (areLong channels ringLength n scratch) 14
 
-    -- each call makes the checks whose values it takes, in that order; audition those of block, and after them its own
+    -- 15, of park (C-17): a three-axis table, or a z number whose bits are not all zero
+    abbrev pub axesCheck : Bank → Check
+    axesCheck b = check (parkable && isFlat channels n b) 15
+
+    -- each call makes the checks whose values it takes, in that order; audition and park have one of their own after them
     abbrev pub openVerdict : Bank → Check
     openVerdict b = setupCheck n then storeCheck b
 
@@ -245,7 +272,7 @@ module _ (E : Engine) where
     verdict (callSet v s) b = setupCheck n then targetsCheck (b .targets) then voiceCheck v then knobCheck s
     verdict (callStart v) b = setupCheck n then storeCheck b then voiceCheck v
     verdict (callBlock q) b = blockVerdict q b
-    verdict (callPark written) b = setupCheck n then storeCheck b then fileCheck written
+    verdict (callPark written) b = setupCheck n then storeCheck b then fileCheck written then axesCheck b
     verdict (callRestore file lent) b = restoreVerdict file lent
     verdict (callAudition q scratch) b = blockVerdict q b then scratchCheck scratch
 

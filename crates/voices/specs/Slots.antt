@@ -7,11 +7,12 @@ use Prim.Native.Nat.{ℕ, _+_, _*_, _≤_, _<_}
 use native.Mathlib.Omega.{arith}
 use mathlib.Core.List.{List}
 use lib.Ieee.{Float}
-use lib.ListN.{length, length-append, length-replicate}
+use lib.ListN.{length, take, length-append, length-replicate}
+use lib.Seq.{length-take-le}
 use Rattle.lane.specs.Floats.{zero}
 use Rattle.parts.specs.Parts.{piece}
 use Rattle.parts.specs.Laws.{upto-keep, upto-focus, flat-low, flat-high, flat-lt, piece-fits, length-piece, length-patch, piece-patch, piece-other}
-use Rattle.voices.specs.Calls.{targetsWidth, recordWidth, Engine, Bank, startRecord, startRing, slot, startSlot, startOf}
+use Rattle.voices.specs.Calls.{smoothedWidth, targetsWidth, recordWidth, Engine, Bank, startRecord, startRing, slot, startSlot, startOf}
 use Rattle.voices.specs.Accepted.{Lengths}
 
 module _ (E : Engine) (n : ℕ) where
@@ -42,7 +43,9 @@ module _ (E : Engine) (n : ℕ) where
     start-length b g =
         let l : length (piece targetsWidth v (b .targets)) ≡ targetsWidth
         = length-piece targetsWidth v (b .targets) (rw (g .targets) (piece-fits targetsWidth v n hv)) in
-        simp (length-append, length-replicate) (omega (arith, l))
+        let front : length (take smoothedWidth (piece targetsWidth v (b .targets))) ≡ smoothedWidth
+        = length-take-le smoothedWidth (piece targetsWidth v (b .targets)) (omega (arith, l)) in
+        simp (length-append, length-replicate) (omega (arith, front))
 
     startSlot-lengths : (c : ℕ) (b : Bank) → c < channels → Lengths E n b → Lengths E n (startSlot E n v c b)
     unfolding startSlot

@@ -14,10 +14,10 @@ returns : tie.Need-returns
 returns c =
     let a = c .before .before .before .before .before .before .before .before .args in
     let g = c .before .before .before .before .before .voice-targets in
-    let l : length (g .result) ≡ 10 = ap length (g .ensures) ∙ targets-length (a .p) in
+    let l : length (g .result) ≡ 11 = ap length (g .ensures) ∙ targets-length (a .p) in
     c .before .before .copy .ensures
-    ∙ ap (λ (k : ℕ). paste (now (a .targets)) k (g .result) 10) (c .before .before .before .before .before .before .start-of .ensures .0)
-    ∙ patch-paste 10 (a .voice) (g .result) (now (a .targets)) l
+    ∙ ap (λ (k : ℕ). paste (now (a .targets)) k (g .result) 11) (c .before .before .before .before .before .before .start-of .ensures .0)
+    ∙ patch-paste 11 (a .voice) (g .result) (now (a .targets)) l
     ∙ rw (g .ensures)
 
 pub set-voice-spec : {M : Type 1} → statement M

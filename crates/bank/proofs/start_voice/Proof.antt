@@ -58,8 +58,8 @@ loop-again c =
     let t = c .before .before .before .before .start-slot in
     let from = c .before .before .before .before .before .before .before .before .before .before .before .before .before .start-of in (
       omega arith,
-      λ cur. start-is (engine (a .setup)) (a .setup .voices) (a .voice) (l .c) cur (now (a .targets)) (l .records) (l .delay) _ _ (c .before .before .before .before .before .before .before .before .before .before .before .before .load-ten .result) (c .before .before .before .before .before .before .before .before .place-at .result) (c .before .before .before .before .before .before .before .before .before .before .before .before .before .before .before .ring-len .result)
-          (c .before .before .before .before .before .before .before .before .place-at .ensures .0) (c .before .before .before .before .before .before .before .before .before .before .before .before .before .before .before .ring-len .ensures) (targets-piece (a .voice) (from .result) (now (a .targets)) _ (from .ensures .0) (c .before .before .before .before .before .before .before .before .before .before .before .before .load-ten .ensures)) (t .ensures .0) (t .ensures .1)
+      λ cur. start-is (engine (a .setup)) (a .setup .voices) (a .voice) (l .c) cur (now (a .targets)) (l .records) (l .delay) _ _ (c .before .before .before .before .before .before .before .before .before .before .before .before .load-targets .result) (c .before .before .before .before .before .before .before .before .place-at .result) (c .before .before .before .before .before .before .before .before .before .before .before .before .before .before .before .ring-len .result)
+          (c .before .before .before .before .before .before .before .before .place-at .ensures .0) (c .before .before .before .before .before .before .before .before .before .before .before .before .before .before .before .ring-len .ensures) (targets-piece (a .voice) (from .result) (now (a .targets)) _ (from .ensures .0) (c .before .before .before .before .before .before .before .before .before .before .before .before .load-targets .ensures)) (t .ensures .0) (t .ensures .1)
           ∙ ap (startSlot (engine (a .setup)) (a .setup .voices) (a .voice) (l .c)) (l .inv .1 cur)
           ∙ ap (λ (k : ℕ). upto (startSlot (engine (a .setup)) (a .setup .voices) (a .voice)) k (bankOf (now (a .targets)) (now (a .records)) (now (a .delay)) cur)) (sym (add-one (l .c))),
       omega (arith, l .inv .2),

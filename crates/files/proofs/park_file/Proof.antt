@@ -1,5 +1,6 @@
 -- `files::park_file` meets its contract. Assumes nothing.
 use mathlib.Core.Path.{sym, ap, _∙_}
+use native.Mathlib.Nat.{le-refl}
 use native.Mathlib.Omega.{arith}
 use lib.ListN.{length}
 use Rattle.parts.specs.Parts.{piece}
@@ -40,11 +41,11 @@ part-put-block-end-2 c = search needs
 put-block-requires-2 : tie.Need-put-block-requires-2
 put-block-requires-2 c κs = search needs
 
+add-at : tie.Need-add-at
+add-at c = search needs
+
 put-rows-requires : tie.Need-put-rows-requires
 put-rows-requires c κs = search needs
-
-add-put-rows : tie.Need-add-put-rows
-add-put-rows c = search needs
 
 put-rows-requires-2 : tie.Need-put-rows-requires-2
 put-rows-requires-2 c κs =
@@ -52,6 +53,7 @@ put-rows-requires-2 c κs =
       record {
         kinds = omega arith;
         few = w .slots;
+        carried = omega arith;
         some-part = omega arith;
         parts = omega arith;
         list = omega (arith, w .records);
@@ -60,11 +62,8 @@ put-rows-requires-2 c κs =
       omega (arith, c .before .before .before .words .given, c .before .before .before .before .before .before .before .before .before .before .before .before .before .before .before .before .before .before .before .before .before .before .before .before .before .before .before .pre .1),
     )
 
-add-put-rows-2 : tie.Need-add-put-rows-2
-add-put-rows-2 c = omega (arith, c .before .before .before .before .before .before .before .before .before .before .before .before .before .before .before .before .before .before .before .before .before .before .before .before .before .before .before .before .before .before .before .before .before .pre .0 .whole .voices)
-
-add-put-rows-3 : tie.Need-add-put-rows-3
-add-put-rows-3 c = omega (arith, c .before .before .before .before .before .before .before .before .before .before .before .before .before .before .before .before .before .before .before .before .before .before .before .before .before .before .before .before .before .before .before .before .before .pre .0 .whole .voices, c .before .before .before .before .before .before .before .before .before .before .before .before .before .before .before .before .before .before .before .before .before .before .before .before .before .before .before .before .before .before .before .before .before .pre .0 .whole .slots)
+add-put-rows : tie.Need-add-put-rows
+add-put-rows c = omega (arith, c .before .before .before .before .before .before .before .before .before .before .before .before .before .before .before .before .before .before .before .before .before .before .before .before .before .before .before .before .before .before .before .before .before .pre .0 .whole .voices, c .before .before .before .before .before .before .before .before .before .before .before .before .before .before .before .before .before .before .before .before .before .before .before .before .before .before .before .before .before .before .before .before .before .pre .0 .whole .slots)
 
 put-rows-requires-3 : tie.Need-put-rows-requires-3
 put-rows-requires-3 c κs =
@@ -72,6 +71,7 @@ put-rows-requires-3 c κs =
       record {
         kinds = omega arith;
         few = w .slots;
+        carried = le-refl _;
         some-part = c .before .before .before .before .before .before .before .before .before .before .before .before .before .before .before .before .before .before .before .before .before .before .before .before .before .before .before .before .before .before .before .before .before .before .pre .0 .some-part;
         parts = c .before .before .before .before .before .before .before .before .before .before .before .before .before .before .before .before .before .before .before .before .before .before .before .before .before .before .before .before .before .before .before .before .before .before .pre .0 .parts;
         list = omega (arith, w .delay);
@@ -111,11 +111,10 @@ park-file-spec =
     part-put-block-start-2
     part-put-block-end-2
     put-block-requires-2
+    add-at
     put-rows-requires
-    add-put-rows
     put-rows-requires-2
-    add-put-rows-2
-    add-put-rows-3
+    add-put-rows
     put-rows-requires-3
     same-length
     same-length-2

@@ -9,6 +9,6 @@ unfolding voiceTargets targetsOf morphTargetsOf
 voice-targets-spec =
     tie.close
     (tie.spec
-    (λ c κs. tt) (λ c κs. tt) (λ c. search needs) (λ c. search needs) (λ c. search needs) (λ c. search needs)
+    (λ c κs. tt) (λ c κs. tt) (λ c κs. tt) (λ c. search needs) (λ c. search needs) (λ c. search needs) (λ c. search needs)
     (λ c. search needs) (λ c. search needs) (λ c. search needs) (λ c. search needs) (λ c. search needs)
-    (λ c. search needs) (λ c. rw (c .before .targets-of .ensures, c .morph-targets-of .ensures)))
+    (λ c. search needs) (λ c. rw (c .before .before .targets-of .ensures, c .before .morph-targets-of .ensures, c .morph .ensures)))

@@ -12,7 +12,7 @@ use Rattle.ladders.specs.declared.Rows.{Rows}
 use Rattle.ladders.specs.Ladders.{acidWith, cleanLadderWith}
 use Rattle.extended.specs.Extended.{Ticked, ticked}
 use Rattle.kernels.specs.Kernels.{kernelOf, onStates}
-use Rattle.kernels.specs.Contracts.{KernelLeaves}
+use Rattle.kernels.specs.Contracts.{tableWith, KernelLeaves}
 use Rattle.kernels.specs.Keeping.{buzz-is, dj-is, diffuser-is, transistor-is, acid-is, clean-is, driven-is, comb-is}
 use Rattle.kernels.specs.Keeping.{multimode-is, weights-are, band-is, k35-is, sections-step}
 use Rattle.kernels.proofs.kernel.Statement.{statement}
@@ -114,7 +114,7 @@ returns-8 c =
     rw key
     (on-states _ _ _ _ _
     (c .pole-zero-step .ensures
-    ∙ sections-step (now (a .sections)) (a .series .active) (a .series .gain) (a .pitch) (a .p) (now (a .blended)) (s .pre .1 .sections key) (now (a .state)) (a .x)))
+    ∙ sections-step (tableWith (a .series) (now (a .sections))) (a .pitch) (a .p) (now (a .blended)) (s .pre .1 .sections key) (now (a .state)) (a .x)))
 
 returns-9 : tie.Need-returns-9
 unfolding kernelOf

@@ -1,12 +1,12 @@
 -- `parking::read_sections` meets its contract. Assumes nothing.
 use mathlib.Core.Path.{_≡_, refl, ap, _∙_}
-use Prim.Native.Nat.{_+_, _-_, _≤_}
+use Prim.Native.Nat.{ℕ, _+_, _-_, _≤_}
 use native.Mathlib.Omega.{arith}
 use mathlib.Core.List.{_++_}
-use lib.ListN.{drop}
-use lib.Ieee.{nan}
+use lib.ListN.{drop, replicate}
+use lib.Ieee.{Float, nan, binary32, ofBits, round}
 use Rattle.parts.specs.Parts.{tab}
-use Rattle.parts.specs.Flat.{tab-again, tab-done}
+use Rattle.parts.specs.Flat.{tab-again}
 use Rattle.file_words.specs.Words.{floatOf}
 use Rattle.setups.specs.Parked.{setupWord}
 use Rattle.parking.specs.Asks.{sectionsIn}
@@ -44,11 +44,15 @@ loop-less : tie.Need-loop-less Inv-loop μ-loop
 loop-less c = omega arith
 
 loop-again : tie.Need-loop-again Inv-loop μ-loop
-loop-again c = (omega arith, tab-again (λ k. floatOf (setupWord (c .before .before .before .before .before .args .file .now) (9 + k))) _ _ _ _ nan (c .before .before .loop-test .taken) (c .before .before .before .loop .inv .1) (c .float-of .ensures ∙ ap floatOf (c .before .file-word .ensures)))
+loop-again c = (omega arith, tab-again (λ k. floatOf (setupWord (c .before .before .before .before .before .args .file .now) (9 + k))) _ _ _ _ nan (omega arith) (c .before .before .before .loop .inv .1) (c .float-of .ensures ∙ ap floatOf (c .before .file-word .ensures)))
 
 returns : tie.Need-returns Inv-loop μ-loop
-unfolding sectionsIn
-returns c = let e : c .before .loop .i ≡ 160 = omega arith in tab-done (λ k. floatOf (setupWord (c .before .before .before .args .file .now) (9 + k))) _ _ _ 160 refl e (c .before .loop .inv .1)
+unfolding sectionsIn ofBits round
+returns c =
+    let l = c .before .loop in
+    let word : ℕ → Float = λ k. floatOf (setupWord (c .before .before .before .args .file .now) (9 + k)) in
+    let e : l .i ≡ 160 = omega arith in
+    l .inv .1 ∙ ap (λ (i : ℕ). tab word i ++ drop i (replicate 320 (ofBits binary32 0))) e
 
 pub read-sections-spec : {M : Type 1} → statement M
 read-sections-spec =

@@ -1,5 +1,6 @@
 -- `parking::read_table` meets its contract. Assumes nothing.
 use mathlib.Core.Path.{ap, _∙_}
+use mathlib.Core.Bool.{false}
 use Rattle.file_words.specs.Words.{floatOf}
 use Rattle.parking.specs.Asks.{tableIn}
 use borrow.Author.Needs.{needs}
@@ -22,6 +23,7 @@ returns : tie.Need-returns
 unfolding tableIn
 returns c = λ t. record {
   active = c .before .before .before .file-word .ensures t;
+  three = false;
   sections = c .before .before .read-sections .ensures t;
   gain = (c .float-of .ensures ∙ ap floatOf (c .before .file-word2 .ensures)) t;
 }

@@ -28,19 +28,19 @@ shared-slice-read-bits-of c = search needs
 bits-of-requires : tie.Need-bits-of-requires
 bits-of-requires c κs = search needs
 
-inside : (L : ℕ) (xs : List Float) (r c w : ℕ) → c < L → w ≡ bitsOf (getD xs (r * L + c) nan) → w ≡ cellWord L xs r c
+inside : (C L : ℕ) (xs : List Float) (r c w : ℕ) → c < C → w ≡ bitsOf (getD xs (r * L + c) nan) → w ≡ cellWord C L xs r c
 unfolding cellWord
-inside L xs r c w h e = e ∙ sym (ap (λ (b : Bool). pick b (bitsOf (getD xs (r * L + c) nan)) 0) (lt-ltb c L h))
+inside C L xs r c w h e = e ∙ sym (ap (λ (b : Bool). pick b (bitsOf (getD xs (r * L + c) nan)) 0) (lt-ltb c C h))
 
-past : (L : ℕ) (xs : List Float) (r c : ℕ) → L ≤ c → 0 ≡ cellWord L xs r c
+past : (C L : ℕ) (xs : List Float) (r c : ℕ) → C ≤ c → 0 ≡ cellWord C L xs r c
 unfolding cellWord
-past L xs r c h = sym (ap (λ (b : Bool). pick b (bitsOf (getD xs (r * L + c) nan)) 0) (le-ltb c L h))
+past C L xs r c h = sym (ap (λ (b : Bool). pick b (bitsOf (getD xs (r * L + c) nan)) 0) (le-ltb c C h))
 
 returns : tie.Need-returns
-returns c = inside _ _ _ _ _ (c .before .before .if1 .taken) (c .bits-of .ensures)
+returns c = inside _ _ _ _ _ _ (c .before .before .if1 .taken) (c .bits-of .ensures)
 
 returns-2 : tie.Need-returns-2
-returns-2 c = past _ _ _ _ (c .if1 .left)
+returns-2 c = past _ _ _ _ _ (c .if1 .left)
 
 pub cell-word-spec : {M : Type 1} → statement M
 cell-word-spec =

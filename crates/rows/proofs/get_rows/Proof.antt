@@ -12,11 +12,13 @@ use Rattle.rows.proofs.get_rows.Statement.{statement}
 use Rattle.rows.proofs.get_rows.Tie as tie
 
 abbrev Inv-loop : tie.InvT-loop
-Inv-loop file pos first rows len parts out₀ n i₀ out i =
-    (i ≤ n) × (out ≡ tab (cellAt (λ j. piece 512 (getD pos (first + j) 0 - 1) file) len parts) i ++ drop i out₀) × (length out ≡ length out₀)
+Inv-loop file pos first rows carried len parts out₀ n i₀ out i =
+    (i ≤ n)
+    × (out ≡ tab (cellAt (λ j. piece 512 (getD pos (first + j) 0 - 1) file) carried len parts) i ++ drop i out₀)
+    × (length out ≡ length out₀)
 
 abbrev μ-loop : tie.MeasureT-loop
-μ-loop file pos first rows len parts out₀ n i₀ out i = n - i
+μ-loop file pos first rows carried len parts out₀ n i₀ out i = n - i
 
 mul-n : tie.Need-mul-n Inv-loop μ-loop
 mul-n c = omega arith

@@ -11,11 +11,11 @@ use Rattle.rows.proofs.part_words.Statement.{statement}
 use Rattle.rows.proofs.part_words.Tie as tie
 
 abbrev Inv-loop : tie.InvT-loop
-Inv-loop xs len row part words₀ w₀ words w =
-    (w ≤ 126) × (words ≡ tab (λ k. cellWord len xs row (part * 126 + k)) w ++ drop w words₀) × (length words ≡ length words₀)
+Inv-loop xs carried len row part words₀ w₀ words w =
+    (w ≤ 126) × (words ≡ tab (λ k. cellWord carried len xs row (part * 126 + k)) w ++ drop w words₀) × (length words ≡ length words₀)
 
 abbrev μ-loop : tie.MeasureT-loop
-μ-loop xs len row part words₀ w₀ words w = 126 - w
+μ-loop xs carried len row part words₀ w₀ words w = 126 - w
 
 loop-holds : tie.Need-loop-holds Inv-loop μ-loop
 loop-holds c = (omega arith, refl, refl)
@@ -27,7 +27,7 @@ add-cell-word : tie.Need-add-cell-word Inv-loop μ-loop
 add-cell-word c = omega arith
 
 cell-word-requires : tie.Need-cell-word-requires Inv-loop μ-loop
-cell-word-requires c κs = omega arith
+cell-word-requires c κs = (omega arith, omega arith)
 
 mul-words : tie.Need-mul-words Inv-loop μ-loop
 mul-words c = omega arith
@@ -49,7 +49,11 @@ same-length c = c .before .loop .inv .2
 
 returns : tie.Need-returns Inv-loop μ-loop
 unfolding rowWords
-returns c = let e : c .before .loop .w ≡ 126 = omega arith in tab-done (λ k. cellWord (c .before .before .before .before .args .len) (c .before .before .before .before .args .xs .now) (c .before .before .before .before .args .row) (c .before .before .before .before .args .part * 126 + k)) _ _ _ 126 (c .before .before .before .before .pre .2) e (c .before .loop .inv .1)
+returns c =
+    let a = c .before .before .before .before .args in
+    let e : c .before .loop .w ≡ 126 = omega arith in
+    tab-done (λ k. cellWord (a .carried) (a .len) (a .xs .now) (a .row) (a .part * 126 + k)) _ _ _ 126 (c .before .before .before .before .pre .3) e
+    (c .before .loop .inv .1)
 
 pub part-words-spec : {M : Type 1} → statement M
 part-words-spec =

@@ -12,22 +12,22 @@ retune-requires c κs = c .before .before .before .before .before .before .befor
 blend-sections-requires : tie.Need-blend-sections-requires
 blend-sections-requires c κs =
     let retune = c .before .before .retune in
-    let settings = c .before .before .before .before .before .before .before in
-    let start = settings .before .before .before .before .before .before .before in
+    let settings = c .before .before .before .before .before .before in
+    let start = settings .before .before .before .before .before .before .before .before in
     let a = start .args in
-    before-blend (a .m) (now (a .sections)) (now (a .params)) (settings .before .before .lag .result) (settings .settings-of .result)
-    (settings .settings-of .ensures) _ (now (a .over)) _ (retune .ensures .1) (now (a .blended)) (start .pre .1 .blends)
+    before-blend (a .m) (now (a .sections)) (now (a .params)) (settings .before .before .before .lag .result) (settings .settings-at .result)
+    (settings .settings-at .ensures) _ (now (a .over)) _ (retune .ensures .1) (now (a .blended)) (start .pre .1 .blends)
 
 kernel-requires : tie.Need-kernel-requires
 kernel-requires c κs =
     let blend = c .before .before .before .before .blend-sections in
     let retune = c .before .before .before .before .before .before .before .retune in
-    let settings = c .before .before .before .before .before .before .before .before .before .before .before .before in
-    let start = settings .before .before .before .before .before .before .before in
+    let settings = c .before .before .before .before .before .before .before .before .before .before .before in
+    let start = settings .before .before .before .before .before .before .before .before in
     let a = start .args in (
       start .pre .0,
-      tuned-at (a .m) (now (a .sections)) (now (a .params)) (settings .before .before .lag .result) (settings .settings-of .result)
-          (settings .settings-of .ensures) _ (now (a .over)) _ (retune .ensures .1) _ _ (now (a .blended)) _ (retune .ensures .0) (blend .ensures .0)
+      tuned-at (a .m) (now (a .sections)) (now (a .params)) (settings .before .before .before .lag .result) (settings .settings-at .result)
+          (settings .settings-at .ensures) _ (now (a .over)) _ (retune .ensures .1) _ _ (now (a .blended)) _ (retune .ensures .0) (blend .ensures .0)
           (blend .ensures .1),
     )
 
@@ -37,19 +37,19 @@ returns c =
     let kernel = c .before .before .before in
     let blend = kernel .before .before .before .before .before in
     let retune = blend .before .before .before .retune in
-    let settings = blend .before .before .before .before .before .before .before .before in
-    let drive = settings .before .drive .ensures in
-    let lag = settings .before .before .lag .ensures in
-    let start = settings .before .before .before .before .before .before .before in
+    let settings = blend .before .before .before .before .before .before .before in
+    let drive = settings .before .before .drive .ensures in
+    let lag = settings .before .before .before .lag .ensures in
+    let start = settings .before .before .before .before .before .before .before .before in
     let a = start .args in
     let brought = blend .blend-sections .ensures in (
-      rw (← lag .0, ← lag .1, ← drive, ← settings .settings-of .ensures) (kernel .kernel .ensures),
-      rw (← lag .0, ← settings .settings-of .ensures)
-          (judged (a .m) (now (a .sections)) (now (a .params)) (settings .before .before .lag .result) (settings .settings-of .result)
-          (settings .settings-of .ensures) _ (now (a .over)) _ (retune .ensures .1) _ _ (now (a .blended)) _ (retune .ensures .0) (brought .0)
+      rw (← lag .0, ← lag .1, ← drive, ← settings .settings-at .ensures) (kernel .kernel .ensures),
+      rw (← lag .0, ← settings .settings-at .ensures)
+          (judged (a .m) (now (a .sections)) (now (a .params)) (settings .before .before .before .lag .result) (settings .settings-at .result)
+          (settings .settings-at .ensures) _ (now (a .over)) _ (retune .ensures .1) _ _ (now (a .blended)) _ (retune .ensures .0) (brought .0)
           (brought .1)),
-      keeps (a .m) (now (a .sections)) (now (a .params)) (settings .before .before .lag .result) (settings .settings-of .result)
-          (settings .settings-of .ensures) _ (now (a .over)) _ (retune .ensures .1) _ _ (now (a .blended)) _ (retune .ensures .0) (brought .0)
+      keeps (a .m) (now (a .sections)) (now (a .params)) (settings .before .before .before .lag .result) (settings .settings-at .result)
+          (settings .settings-at .ensures) _ (now (a .over)) _ (retune .ensures .1) _ _ (now (a .blended)) _ (retune .ensures .0) (brought .0)
           (brought .1) (start .pre .1 .blends),
     )
 

@@ -1,7 +1,7 @@
 -- `run_slot` meets its contract: the loads are the slot's record, the frames are `run_frames`, and the record and the count are stored.
 use mathlib.Core.Path.{refl, sym, ap, _∙_, subst}
 use mathlib.Core.Bool.{true≢false}
-use mathlib.Core.List.{List}
+use mathlib.Core.List.{List, [], _∷_, _++_}
 use Prim.Native.Nat.{ℕ, _+_, _*_, _≤_}
 use native.Mathlib.Omega.{arith}
 use denote.Ref.{now}
@@ -15,10 +15,10 @@ use Rattle.run.specs.declared.Structure.{Structure}
 use Rattle.run.specs.Run.{PEAK}
 use Rattle.peak.specs.Running.{settledOf, Runs}
 use Rattle.run.specs.Contracts.{Keeps, recordOf, heldRecord}
-use Rattle.voices.specs.Calls.{targetsWidth, recordWidth}
+use Rattle.voices.specs.Calls.{targetsWidth, recordWidth, recordZ}
 use Rattle.slots.specs.Slots.{engineAt, blockAt, blockRun}
 use Rattle.slots.specs.Frame.{targets-piece, slot-is}
-use Rattle.slots.proofs.Laws.{record-loaded, begun, record-settled}
+use Rattle.slots.proofs.Laws.{replaced-long, record-loaded, begun, record-settled}
 use Rattle.slots.proofs.run_slot.Statement.{statement}
 use Rattle.slots.proofs.run_slot.Tie as tie
 
@@ -26,7 +26,7 @@ use Rattle.slots.proofs.run_slot.Tie as tie
 abbrev unset : ℕ → List Float
 unset n = replicate n (div binary32 (ofBits binary32 0) (ofBits binary32 0))
 
-keeps-nothing : (m : Structure) (sections : List Float) (over : ℕ) → Keeps m sections (unset 10) (unset 43) over
+keeps-nothing : (m : Structure) (sections : List Float) (over : ℕ) → Keeps m sections (unset 10) (unset 44) over
 unfolding Kept KeptSections isNan ofBits div
 keeps-nothing m sections over = record { numbers = λ h. absurd (true≢false h); blends = λ h. absurd (true≢false h) }
 
@@ -39,7 +39,7 @@ run-frames-requires c κs =
       s .pre .3,
       s .pre .2,
       record {
-        params = ap length (c .before .before .before .before .before .before .before .before .before .before .before .before .before .before .before .load-ten2 .ensures) ∙ length-take-le 10 (drop (at .result) rs) (simp length-drop (omega (arith, at .ensures .1)));
+        params = ap length (c .before .before .before .before .before .before .before .before .before .before .before .before .before .before .before .load-smoothed .ensures) ∙ replaced-long (drop (at .result) rs) (simp length-drop (omega (arith, at .ensures .1))) _;
         state = ap length (c .before .before .before .before .before .before .before .before .before .before .before .before .before .load-states .ensures) ∙ length-take-le 20 (drop (at .result + 10) rs) (simp length-drop (omega (arith, at .ensures .1)));
       },
       keeps-nothing (s .args .e .m) (now (s .args .sections)) 0,
@@ -51,8 +51,8 @@ returns c =
     let a = s .args in
     let from = c .before .before .before .before .before .before .before .before .before .before .before .before .before .before .before .before .before .before .before .before .before .before .before .before .before .before .before .before .before .before .before .before .start-of in
     let at = c .before .before .before .before .before .before .before .before .before .before .before .before .before .before .before .before .before .before .before .before .before .before .before .before .before .before .before .before .before .before .before .start-of2 in
-    let goals = c .before .before .before .before .before .before .before .before .before .before .before .before .before .before .before .before .before .before .before .before .before .before .before .before .before .before .before .before .before .before .load-ten in
-    let params = c .before .before .before .before .before .before .before .before .before .before .before .before .before .before .before .before .before .before .before .before .before .before .before .before .before .before .before .before .load-ten2 in
+    let goals = c .before .before .before .before .before .before .before .before .before .before .before .before .before .before .before .before .before .before .before .before .before .before .before .before .before .before .before .before .before .before .load-targets in
+    let params = c .before .before .before .before .before .before .before .before .before .before .before .before .before .before .before .before .before .before .before .before .before .before .before .before .before .before .before .before .load-smoothed in
     let state = c .before .before .before .before .before .before .before .before .before .before .before .before .before .before .before .before .before .before .before .before .before .before .before .before .before .before .load-states in
     let held = c .before .before .before .before .before .before .before .before .before .before .before .before .before .before .before .before .before .before .before .before .before .before .before .before .hold-peak in
     let frames = c .before .before .before .before .before .before .before .before .before .before .before .before .run-frames in
@@ -67,7 +67,7 @@ returns c =
     (s .pre .3 .number)
     (targets-piece (a .p .voice) (from .result) (now (a .targets)) _ (from .ensures .0) (goals .ensures))
     ((λ i. recordOf (params .ensures i) (state .ensures i) ((ap (settledOf b) first ∙ held .ensures .3 ∙ held .ensures .0) i))
-    ∙ ap (λ (k : ℕ). recordOf (take 10 (drop k rs)) (take 20 (drop (k + 10) rs)) (rs ‼ (k + PEAK))) (at .ensures .0)
+    ∙ ap (λ (k : ℕ). recordOf (take 10 (drop k rs) ++ rs ‼ (k + recordZ) ∷ []) (take 20 (drop (k + 10) rs)) (rs ‼ (k + PEAK))) (at .ensures .0)
     ∙ record-loaded (a .p .number) rs fits)
     (frames .ensures b (subst (Runs b) (sym first) (held .ensures .2)))
     (record-settled (a .p .number) (at .result) rs (at .ensures .0) fits b _ (held .ensures .1) (frames .last .1 .1 .1 .1 .1 .1 .0) (frames .last .1 .1 .1 .1 .1 .1 .1 .0) _ _ _ (c .before .before .before .before .before .before .settled .ensures) (c .before .before .store-record .ensures))

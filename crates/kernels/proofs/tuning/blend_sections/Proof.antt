@@ -1,13 +1,13 @@
--- `kernels::tuning::blend_sections` meets its contract: what is kept is of the same pitch, X and Y, or it is worked out.
+-- `kernels::tuning::blend_sections` meets its contract: what is kept is of the same pitch, X, Y and Z, or it is worked out.
 use mathlib.Core.Path.{_≡_, refl, _∙_}
 use mathlib.Core.Bool.{true, cond}
 use denote.Ref.{now}
 use lib.Dec.{eqb}
 use borrow.Author.Tests.{eq-eqb, ne-eqb}
 use Rattle.filter.specs.Filter.{octavesOf}
-use Rattle.poles.specs.Poles.{poleOver}
+use Rattle.poles.specs.Poles.{padOf, numberAt, poleOver}
 use Rattle.poles.specs.Numbers.{poleNumbers}
-use Rattle.kernels.specs.Tuning.{blendedOf, blendedOver}
+use Rattle.kernels.specs.Tuning.{blendedOf, blendedOver, keptPad}
 use Rattle.kernels.specs.Contracts.{KeptSections}
 use Rattle.kernels.proofs.tuning.blend_sections.Statement.{statement}
 use Rattle.kernels.proofs.tuning.blend_sections.Tie as tie
@@ -24,11 +24,12 @@ returns-2 c =
     let key = c .before .is-blended .ensures (c .if2 .taken) in
     let kept = s .pre (key .number) in
     let is : eqb (a .code) 8 ≡ true = eq-eqb (a .code) 8 (c .before .before .before .if1 .left) in
+    let pad : keptPad (a .series .three) (now (a .blended)) ≡ padOf (a .series .three) (a .p)
+    = λ i. record { three = a .series .three; x = key .x-is i; y = key .y-is i; z = key .z-is i } in
     simp is (
-      kept .0
-          ∙ (λ i. poleNumbers (now (a .sections)) (a .active) (a .p .«ref_over_rate») (record { 0 = key .pitch-is i }) (key .x-is i) (key .y-is i)),
+      kept .0 ∙ (λ i. poleNumbers (now (a .sections)) (a .series .active) (a .p .«ref_over_rate») (record { 0 = key .pitch-is i }) (pad i)),
       kept .1
-          ∙ (λ i. cond (is i) (poleOver (now (a .sections)) (a .active) (key .x-is i) (key .y-is i) (octavesOf (record { 0 = key .pitch-is i }))
+          ∙ (λ i. cond (is i) (poleOver (numberAt (now (a .sections)) (pad i)) (a .series .active) (octavesOf (record { 0 = key .pitch-is i }))
           (a .p .«ref_over_rate»)) (now (a .over))),
     )
 

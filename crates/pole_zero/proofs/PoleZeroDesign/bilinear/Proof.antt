@@ -1,4 +1,4 @@
--- `PoleZeroDesign::bilinear` meets its contract: the four states' points and their sections, by the calls' contracts.
+-- `PoleZeroDesign::bilinear` meets its contract: the face's four states' points and their sections, by the calls' contracts.
 use native.Mathlib.Omega.{arith}
 use Rattle.pole_zero.specs.PoleZero.{bilinearOf}
 use Rattle.pole_zero.proofs.PoleZeroDesign.bilinear.Statement.{statement}
@@ -28,8 +28,8 @@ bilinear-spec =
     tie.close
     (tie.spec
     (λ c κs. (omega arith, omega arith)) (λ c κs. tt)
-    (λ c κs. (omega arith, omega arith)) (λ c κs. tt)
-    (λ c κs. (omega arith, omega arith)) (λ c κs. tt)
-    (λ c κs. (omega arith, omega arith)) (λ c κs. tt)
+    (λ c. omega arith) (λ c κs. (omega arith, omega arith)) (λ c κs. tt)
+    (λ c. omega arith) (λ c κs. (omega arith, omega arith)) (λ c κs. tt)
+    (λ c. omega arith) (λ c κs. (omega arith, omega arith)) (λ c κs. tt)
     (λ c κs. tt)
     returns)

@@ -1,4 +1,4 @@
--- `PoleZeroDesign::default` meets its contract: four default states.
+-- `PoleZeroDesign::default` meets its contract: eight default states, of two axes.
 use lib.Ieee.{ofBits, round}
 use Rattle.pole_zero.specs.PoleZero.{defaultDesign}
 use Rattle.pole_zero.proofs.PoleZeroDesign.default.Statement.{statement}

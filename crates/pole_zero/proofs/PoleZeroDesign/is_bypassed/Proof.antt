@@ -1,5 +1,6 @@
--- `PoleZeroDesign::is_bypassed` meets its contract: the four states' points and their kinds, by the calls' contracts.
+-- `PoleZeroDesign::is_bypassed` meets its contract: the near face's test, and, with three axes, the far face's.
 use native.Mathlib.Omega.{arith}
+use borrow.Author.Tests.{not-true, not-false}
 use Rattle.pole_zero.specs.PoleZero.{isBypassed}
 use Rattle.pole_zero.proofs.PoleZeroDesign.is_bypassed.Statement.{statement}
 use Rattle.pole_zero.proofs.PoleZeroDesign.is_bypassed.Tie as tie
@@ -7,24 +8,35 @@ use Rattle.pole_zero.proofs.PoleZeroDesign.is_bypassed.Tie as tie
 returns : tie.Need-returns
 unfolding isBypassed
 returns c =
-    let b = c .before .before .before in
-    let p = b .before in
+    let n = c .before .face-bypassed in
+    rw (← n .ensures, not-true (n .result) (c .if1 .taken))
+
+returns-2 : tie.Need-returns-2
+unfolding isBypassed
+returns-2 c =
+    let e = c .before .before in
+    let n = e .before .face-bypassed in
+    rw (← n .ensures, not-false (n .result) (e .if1 .left), not-true (e .before .before .args .self .three) (c .if2 .taken))
+
+returns-3 : tie.Need-returns-3
+unfolding isBypassed
+returns-3 c =
+    let t = c .before in
+    let e = t .before .before in
+    let n = e .before .face-bypassed in
     rw (
-      c .is-bypass4 .ensures,
-      c .before .is-bypass3 .ensures,
-      c .before .before .is-bypass2 .ensures,
-      b .is-bypass .ensures,
-      ← p .point4 .ensures,
-      ← p .before .point3 .ensures,
-      ← p .before .before .point2 .ensures,
-      ← p .before .before .before .point .ensures,
+      ← n .ensures,
+      not-false (n .result) (e .if1 .left),
+      c .face-bypassed2 .ensures,
+      not-false (e .before .before .args .self .three) (t .if2 .left),
     )
 
 pub is-bypassed-spec : {M : Type 1} → statement M
 is-bypassed-spec =
     tie.close
     (tie.spec
-    (λ c κs. (omega arith, omega arith)) (λ c κs. (omega arith, omega arith))
-    (λ c κs. (omega arith, omega arith)) (λ c κs. (omega arith, omega arith))
-    (λ c κs. tt) (λ c κs. tt) (λ c κs. tt) (λ c κs. tt)
-    returns)
+    (λ c κs. (omega arith, omega arith))
+    returns
+    returns-2
+    (λ c κs. (omega arith, omega arith))
+    returns-3)

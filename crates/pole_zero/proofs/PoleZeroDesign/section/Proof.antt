@@ -15,7 +15,7 @@ returns c =
     let point = c .before .before .before .before .before .args .point in
     let e : ltb point 8 ≡ true = lt-ltb point 8 (omega arith) in
     let b = c .before in
-    (rw e, rw (e, c .blended .ensures, b .clamp2 .ensures, b .before .clamp .ensures, b .before .before .bilinear .ensures))
+    (rw e, rw (e, c .blended-at .ensures, b .clamp3 .ensures, b .before .clamp2 .ensures, b .before .before .clamp .ensures))
 
 returns-2 : tie.Need-returns-2
 unfolding refusalOf valuesOf sectionRefusal sectionValues
@@ -28,9 +28,9 @@ pub section-spec : {M : Type 1} → statement M
 section-spec =
     tie.close
     (tie.spec
+    (λ c κs. tt)
+    (λ c κs. tt)
+    (λ c κs. tt)
     (λ c κs. omega arith)
-    (λ c κs. tt)
-    (λ c κs. tt)
-    (λ c κs. tt)
     returns
     returns-2)

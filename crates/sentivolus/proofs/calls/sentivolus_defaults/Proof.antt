@@ -1,4 +1,4 @@
--- `sentivolus::calls::sentivolus_defaults` meets its contract: the nine numbers of the library's default settings.
+-- `sentivolus::calls::sentivolus_defaults` meets its contract: the ten numbers of the library's default settings.
 use Rattle.sentivolus.specs.Calls.{paramNumbers}
 use Rattle.sentivolus.proofs.calls.sentivolus_defaults.Statement.{statement}
 use Rattle.sentivolus.proofs.calls.sentivolus_defaults.Tie as tie

@@ -19,7 +19,7 @@ returns c =
     let done = c .before .before .before in
     let setup = done .before .before in
     let a = setup .before .before .args in
-    let p : VoiceParams = record { resonance = a .resonance; drive = a .drive; saturation = a .saturation; character = a .character; «stereo_offset» = a .stereo-offset; mix = a .mix; level = a .level; «morph_x» = a .morph-x; «morph_y» = a .morph-y } in
+    let p : VoiceParams = record { resonance = a .resonance; drive = a .drive; saturation = a .saturation; character = a .character; «stereo_offset» = a .stereo-offset; mix = a .mix; level = a .level; «morph_x» = a .morph-x; «morph_y» = a .morph-y; «morph_z» = a .morph-z } in
     subst
     (λ (s : Setup). ListsLeft (call (engine s) (s .voices) (callSet (a .voice) p) (before (bankOf (now (a .targets)) [] [] 0))) (c .number-of .result) (done .set .last .1 .1 .0) [] [])
     (setup .setup-of .ensures)

@@ -17,7 +17,7 @@ accepted c =
       answer = sym number;
       numbers = rw number
           (c .values .ensures ∙ sym (ap valuesOf is-values) ∙ section .section .ensures .1
-          ∙ ap (λ (d : PoleZeroDesign). sectionValues d (a .point) (a .x) (a .y)) (section .before .design-of .ensures));
+          ∙ ap (λ (d : PoleZeroDesign). sectionValues d (a .point) (a .x) (a .y) (a .z)) (section .before .design-of .ensures));
     }
 
 refused : tie.Need-returns-2
