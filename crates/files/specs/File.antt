@@ -10,7 +10,7 @@ use Rattle.voices.specs.Calls.{targetsWidth, recordWidth}
 use Rattle.blocks.specs.Blocks.{headOf, blockBytes, partsOf}
 use Rattle.rows.specs.Rows.{rowBlock}
 
--- C-17: "Kinds 2 and 3 still carry ten and thirty-one numbers": all but z of a voice's targets and of a slot's record
+-- numbers of a voice's targets and of a slot's record that kinds 2 and 3 carry: all but z, for which a file has no words (C-17, refusal 15)
 abbrev pub parkedTargets : ℕ
 parkedTargets = 10
 

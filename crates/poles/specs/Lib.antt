@@ -1,4 +1,5 @@
 -- To be read: Poles.
 pub mod Poles
+pub mod AtZero
 pub mod Numbers
 pub mod Heard

@@ -87,17 +87,17 @@ nearAt sections d at = blendOf sections at (d .x) (d .y)
 unfoldable pub betweenAt : (sections : List Float) → Pad → ℕ → Float
 betweenAt sections d at = between (blendOf sections at (d .x) (d .y)) (blendOf sections (farFace + at) (d .x) (d .y)) (unitOr0 (d .z))
 
-pub two-axes : (sections : List Float) (d : Pad) → d .three ≡ false → nearAt sections d ≡ numberAt sections d
-unfolding nearAt numberAt
-two-axes sections d h =
-    λ t i. cond (sym h t) (between (blendOf sections i (d .x) (d .y)) (blendOf sections (farFace + i) (d .x) (d .y)) (unitOr0 (d .z)))
-    (blendOf sections i (d .x) (d .y))
+-- by the table's axes
+module _ (sections : List Float) (d : Pad) where
+  by-axes : (b : Bool) → d .three ≡ b → (λ i. cond b (betweenAt sections d i) (nearAt sections d i)) ≡ numberAt sections d
+  unfolding nearAt betweenAt numberAt
+  by-axes b h = λ t i. cond (sym h t) (betweenAt sections d i) (nearAt sections d i)
 
-pub three-axes : (sections : List Float) (d : Pad) → d .three ≡ true → betweenAt sections d ≡ numberAt sections d
-unfolding betweenAt numberAt
-three-axes sections d h =
-    λ t i. cond (sym h t) (between (blendOf sections i (d .x) (d .y)) (blendOf sections (farFace + i) (d .x) (d .y)) (unitOr0 (d .z)))
-    (blendOf sections i (d .x) (d .y))
+  pub two-axes : d .three ≡ false → nearAt sections d ≡ numberAt sections d
+  two-axes = by-axes false
+
+  pub three-axes : d .three ≡ true → betweenAt sections d ≡ numberAt sections d
+  three-axes = by-axes true
 
 -- the five numbers of section j, in the face that begins at `face`
 unfoldable pub faceSection : (sections : List Float) (face j : ℕ) (x y : Float) → Section

@@ -21,12 +21,12 @@ use run::Structure;
 use voices::RECORD_WIDTH;
 use voices::TARGETS_WIDTH;
 
-// Where a record has its slot's peak and smoothed z, which is the last of the smoothed numbers.
+// Where a record has its slot's peak and smoothed z, and where z stands among the smoothed numbers.
 const PEAK: usize = RECORD_WIDTH - 2;
 
 const RECORD_Z: usize = RECORD_WIDTH - 1;
 
-const LAST: usize = TARGETS_WIDTH - 1;
+const SMOOTHED_Z: usize = TARGETS_WIDTH - 1;
 
 // The place of a column in a row, of a list of so many rows.
 pub fn place_at(row: usize, width: usize, column: usize, rows: usize, len: usize) -> usize
@@ -72,7 +72,7 @@ fn load_smoothed(list: &[f32], at: usize) -> [f32; 11]
     ensures { λ r. ⌜ r ≡ take smoothedWidth (drop at (now (list .entry))) ++ now (list .entry) ‼ (at + recordZ) ∷ [] ⌝ }
 {
     let mut into = load_targets(list, at);
-    into[LAST] = list[at + RECORD_Z];
+    into[SMOOTHED_Z] = list[at + RECORD_Z];
     into
 }
 
@@ -95,7 +95,7 @@ fn store_record(records: &mut [f32], slot: usize, params: &[f32; 11], state: &[f
     copy(params, 0, records, at, 10);
     copy(state, 0, records, at + 10, 20);
     records[at + PEAK] = peak;
-    records[at + RECORD_Z] = params[LAST];
+    records[at + RECORD_Z] = params[SMOOTHED_Z];
 }
 
 // Zeroes a slot's ring.

@@ -118,8 +118,8 @@ pub record Engine : Type 1 where
   pub setupCheck : (n : ℕ) → Check
   -- whether a parked file has words for the setup: its table has two axes (C-17)
   pub parkable : Bool
-  -- of a parked file (C-12): what the reader's checks come to with the lists that it is lent, the bank that it holds, and that its setup is this one
-  -- with n voices
+  -- of a parked file (C-12): what the reader's checks come to with the lists that it is lent, the bank that it holds, and that its setup is this one,
+  -- as it is heard (C-17), with n voices
   pub restoreVerdict : (file : List ℕ) (lent : Bank) → Check
   pub bankIn : (file : List ℕ) → Bank
   pub OwnSetup : (n : ℕ) (file : List ℕ) → Type 0
