@@ -10,6 +10,7 @@ Renders an impulse through one voice of the proved bank and prints each frame wi
   CODE    1 BuzzMorph       4 TransistorLadder   7 DrivenLadder    10 ExpanderMultimode
           2 DjSweep         5 DiodeLadder        8 PoleZero        11 ExpanderBandPass
           3 Diffuser        6 CleanLadder        9 Comb2           12 K35
+         13 ChordComb, of one tooth
   RATE    samples a second, a whole number from 8000 to 131015
   FRAMES  1 to 4096
 Example: run.sh 2 48000 3

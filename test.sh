@@ -53,7 +53,7 @@ count "Rust wrapper" rust/test.sh
 count "comparison programs' tests" cargo test --quiet --release --offline --manifest-path compare/Cargo.toml
 count "leaves of the repository" compare/replay.sh check leaf crates/leaves/stdin
 count "scenarios of the repository" compare/replay.sh check run crates/scenarios/stdin
-vectors=../shared/vectors/c17 # the oracle's answers with the requests up to C-17
+vectors=../shared/vectors/c18 # the oracle's answers with the requests up to C-18
 if [ -d "$vectors" ]; then
     for f in traps scenarios; do count "$f of the vectors beside the repository" compare/replay.sh check run "$vectors/$f.txt"; done
     count "leaves of the vectors beside the repository" compare/replay.sh check leaf "$vectors/leaves.txt"

@@ -19,8 +19,8 @@
  *   Ownership   The caller owns every list and struct and lends it for the call; nothing is kept between calls.
  *   Pointers    A list is a pointer and its length in elements. An empty list may have any pointer, NULL too. Every other pointer must be
  *               valid and aligned as its type asks; none is tested.
- *   Aliasing    What a call writes (a list, the file, *cursor, *scratch_cursor, *rendered, out, the numbers of a setup) overlaps nothing else
- *               that the call is lent: an audition's scratch is never the bank, nor a part of it.
+ *   Aliasing    What a call writes (a list, the file, *cursor, *scratch_cursor, *rendered, out, taps, the numbers of a setup) overlaps nothing
+ *               else that the call is lent: an audition's scratch is never the bank, nor a part of it.
  *   Threads     The archive has no variables. Any thread may call it; two calls at once share no list that one of them writes.
  *   Real time   No allocation, no lock, no system call. Less than 12 KiB of stack; a design's table and sections less than 24 KiB; reading a
  *               parked file (sentivolus_file_setup and sentivolus_bank_restore, and the symbols under them) less than 64 KiB, for a table of
@@ -37,8 +37,8 @@
  *   audio       [frame][channel][voice], filtered in place
  *   counts      one u32 a slot, written anew by each accepted block or audition: how often in it a cutoff was over the pitch ceiling, 0.49 of the
  *               rate, before it was held there (equal is not over, NaN is not). A frame counts 0 or 1; with SENTIVOLUS_COMB2 0 or 2, its two reads; with
- *               SENTIVOLUS_POLE_ZERO each running section that was over, 0 to 8. With SENTIVOLUS_DJ_SWEEP the cutoff is the one that the sweep
- *               comes to, not the pitch handed in
+ *               SENTIVOLUS_CHORD_COMB 0 or the number of its teeth; with SENTIVOLUS_POLE_ZERO each running section that was over, 0 to 8. With
+ *               SENTIVOLUS_DJ_SWEEP the cutoff is the one that the sweep comes to, not the pitch handed in
  *   sections    320 numbers: the face at z = 0 and then the face at z = 1, which a table of two axes ignores. A face has 160: by section, then
  *               octaves, damping, high, band, low, then the terms c, x, y, xy of each. With three axes a section's number is A + z * (B - A), where
  *               A and B are those of the two faces at x and y
@@ -47,7 +47,8 @@
  *               Kind 1, parts 0 and 1, byte 1 zero: code, voices, channels, clean 0 or 1, rate, reference, cursor low, cursor high, active,
  *               the face at z = 0, gain. Kind 2, part 0: a voice's targets without z. Kind 3, part 0: a slot's record without z. Kind 4: a slot's ring,
  *               cell 0 first, 126 a part. Written by kind, then voice or slot, then part. Read in any order; unused words are ignored, and any NaN is
- *               taken. Files of versions before 700 hold 0 where the peak stands. A bank that needs a third axis is not parked: refusal 15
+ *               taken. Files of versions before 700 hold 0 where the peak stands. A chord comb, and a bank that needs a third axis, are not parked:
+ *               refusal 15. A chord that the structure ignores is not in the file and comes back as count 0 and offsets 0
  */
 #ifndef SENTIVOLUS_H
 #define SENTIVOLUS_H
@@ -63,7 +64,7 @@ extern "C" {
 
 /* 10,000 x major + 100 x minor + patch. It grows with every change of a call, a struct or a layout; sentivolus_version() gives that of the
  * archive. */
-#define SENTIVOLUS_VERSION 900
+#define SENTIVOLUS_VERSION 1000
 
 enum {
     SENTIVOLUS_MOST_VOICES = 16,
@@ -78,7 +79,8 @@ enum {
     SENTIVOLUS_STATES = 8,         /* of a pole-zero design: four at z = 0, then four at z = 1 */
     SENTIVOLUS_POINTS = 8,         /* a state */
     SENTIVOLUS_SECTIONS = 320,     /* numbers of a pole-zero table */
-    SENTIVOLUS_FACE = 160          /* numbers of one of its two faces */
+    SENTIVOLUS_FACE = 160,         /* numbers of one of its two faces */
+    SENTIVOLUS_TEETH = 8           /* offsets of a chord */
 };
 
 /* The structures that a bank's filters can have. */
@@ -94,7 +96,8 @@ typedef enum sentivolus_code {
     SENTIVOLUS_COMB2 = 9,                  /* a feedback comb with two taps, the second up to two octaves above by character */
     SENTIVOLUS_EXPANDER_MULTIMODE = 10,    /* a four-pole ladder; character goes from low-pass by notch to high-pass */
     SENTIVOLUS_EXPANDER_BAND_PASS = 11,    /* the four-pole ladder's band-pass */
-    SENTIVOLUS_K35 = 12                    /* Sallen-Key with a saturating feedback; character goes from low-pass to high-pass */
+    SENTIVOLUS_K35 = 12,                   /* Sallen-Key with a saturating feedback; character goes from low-pass to high-pass */
+    SENTIVOLUS_CHORD_COMB = 13             /* a feedback comb with up to eight taps, the teeth of the setup's chord; character does nothing */
 } sentivolus_code;
 
 /* What a point of a pole-zero design does. A number above 7 acts as a Bypass. */
@@ -110,14 +113,15 @@ typedef enum sentivolus_kind {
 } sentivolus_kind;
 
 /* What a call answers: 0, or the refusal whose condition was met first. Checks run in this order, each call making those whose values it
- * takes; those of a parked file have an order of their own, said at sentivolus_bank_restore. */
+ * takes, but 16 stands between 5 and 6, and where 'refusals 1 to 6' are spoken of it is among them; those of a parked file have an order of their
+ * own, said at sentivolus_bank_restore. */
 typedef enum sentivolus_refusal {
     SENTIVOLUS_ACCEPTED = 0,
     SENTIVOLUS_REFUSED_RATE = 1,      /* rate NaN, below 8,000 or above 384,000 */
     SENTIVOLUS_REFUSED_TUNING = 2,    /* reference NaN, below 1 or above 20,000 */
     SENTIVOLUS_REFUSED_POLYPHONY = 3, /* voices not 1 to 16 */
     SENTIVOLUS_REFUSED_LAYOUT = 4,    /* channels not 1 or 2 */
-    SENTIVOLUS_REFUSED_STRUCTURE = 5, /* code not 1 to 12 */
+    SENTIVOLUS_REFUSED_STRUCTURE = 5, /* code not 1 to 13 */
     SENTIVOLUS_REFUSED_STORE = 6,     /* targets, records, delay or the file to be written not exactly as long as the setup asks */
     SENTIVOLUS_REFUSED_VOICE = 7,     /* voice number not below voices */
     SENTIVOLUS_REFUSED_KNOB = 8,      /* NaN resonance, drive, saturation, character or mix */
@@ -127,15 +131,16 @@ typedef enum sentivolus_refusal {
     SENTIVOLUS_REFUSED_DAMAGED = 12,  /* a parked file's length no multiple of 512, or a block whose words do not sum to zero */
     SENTIVOLUS_REFUSED_BLOCKS = 13,   /* a block of a parked file missing, doubled or unknown, or its clean word above 1 */
     SENTIVOLUS_REFUSED_SCRATCH = 14,  /* targets, records or delay of an audition's scratch not exactly as long as the setup asks */
-    SENTIVOLUS_REFUSED_UNPARKABLE = 15 /* a bank that a parked file has no words for: a three-axis table, or a z number, of targets or records,
-                                        * whose bits are not all zero */
+    SENTIVOLUS_REFUSED_UNPARKABLE = 15, /* a bank that a parked file has no words for: a chord comb, a three-axis table, or a z number, of targets
+                                         * or records, whose bits are not all zero */
+    SENTIVOLUS_REFUSED_CHORD = 16     /* of a chord comb: count not 1 to 8, or the offset of one of its teeth NaN, below 0 or above 2 */
 } sentivolus_refusal;
 
 /* The trade's word for a refusal's number. */
 static inline const char *sentivolus_refusal_word(uint32_t number)
 {
     static const char *const words[] = {"accepted", "rate", "tuning", "polyphony", "layout", "structure",
-                                        "store", "voice", "knob", "frames", "buffer", "point", "damaged", "blocks", "scratch", "unparkable"};
+                                        "store", "voice", "knob", "frames", "buffer", "point", "damaged", "blocks", "scratch", "unparkable", "chord"};
     return number < sizeof words / sizeof words[0] ? words[number] : "unknown";
 }
 
@@ -149,6 +154,14 @@ typedef struct sentivolus_pole_zero_table {
     bool three_axes; /* x, y and z; otherwise x and y, and the face at z = 1 is ignored */
 } sentivolus_pole_zero_table;
 
+/* The teeth of a chord comb: tooth i is a tap at delay 1 / (cutoff x sentivolus_exp2(offsets[i])) samples, the cutoff in cycles a sample. The taps are
+ * summed in this order and multiplied by 1 / count; all else is SENTIVOLUS_COMB2's, which is the chord of offsets 0 and twice its character. Three teeth
+ * at 0, 4.0f / 12 and 7.0f / 12 ring as a major chord. */
+typedef struct sentivolus_chord {
+    uint32_t count;                  /* teeth, 1 to 8 */
+    float offsets[SENTIVOLUS_TEETH]; /* octaves above the cutoff, 0 to 2; those past the last tooth are ignored */
+} sentivolus_chord;
+
 /* What a bank is opened with; every later call is handed it again. Make it by sentivolus_new_setup or sentivolus_file_setup: later versions add
  * fields. */
 typedef struct sentivolus_setup {
@@ -159,6 +172,7 @@ typedef struct sentivolus_setup {
     size_t channels; /* 1, or 2: left and right */
     bool clean;      /* clean drive: the clipper's input 24 dB lower and its output 24 dB higher */
     sentivolus_pole_zero_table table; /* read by SENTIVOLUS_POLE_ZERO alone */
+    sentivolus_chord chord;           /* read by SENTIVOLUS_CHORD_COMB alone */
 } sentivolus_setup;
 
 /* The lists that the caller lends, and the cursor of the rings, any number. Their lengths: sentivolus_targets_len and its like. An audition's
@@ -219,32 +233,32 @@ typedef struct sentivolus_design {
 /* ---- 3. The archive's symbols ----
  *
  * Each asks that MXCSR rounds to nearest, keeps subnormals and traps nothing: its default, 0x1F80, flags apart. Where it may be otherwise, call
- * them between sentivolus_floats_enter and sentivolus_floats_leave. `sections` has 320 numbers. */
+ * them between sentivolus_floats_enter and sentivolus_floats_leave. `sections` has 320 numbers, `offsets` 8. */
 
 uint32_t sentivolus_version(void);
 
 /* Every voice set to the defaults and started; the cursor is 0 afterwards. */
 uint32_t sentivolus_open(uint32_t code, float rate, float reference, size_t voices, size_t channels, bool clean,
-                         uint32_t active, bool three_axes, const float sections[], float gain,
+                         uint32_t active, bool three_axes, const float sections[], float gain, uint32_t count, const float offsets[],
                          float *targets, size_t targets_len, float *records, size_t records_len, float *delay, size_t delay_len);
 
 /* Writes one voice's targets. The cursor stays. */
 uint32_t sentivolus_set(uint32_t code, float rate, float reference, size_t voices, size_t channels, bool clean,
-                        uint32_t active, bool three_axes, const float sections[], float gain,
+                        uint32_t active, bool three_axes, const float sections[], float gain, uint32_t count, const float offsets[],
                         float *targets, size_t targets_len, size_t voice,
                         float resonance, float drive, float saturation, float character, float stereo_offset, float mix,
                         float level, float morph_x, float morph_y, float morph_z);
 
 /* Copies a voice's targets to its smoothed numbers on every channel and zeroes its states, peaks and rings. The cursor stays. */
 uint32_t sentivolus_start(uint32_t code, float rate, float reference, size_t voices, size_t channels, bool clean,
-                          uint32_t active, bool three_axes, const float sections[], float gain,
+                          uint32_t active, bool three_axes, const float sections[], float gain, uint32_t count, const float offsets[],
                           const float *targets, size_t targets_len, float *records, size_t records_len,
                           float *delay, size_t delay_len, size_t voice);
 
 /* Renders a block in place and writes its counts. *cursor is the cursor, and the new one afterwards; *rendered becomes the frames rendered. */
 uint32_t sentivolus_block(uint32_t code, float rate, float reference, size_t voices, size_t channels, bool clean,
-                          uint32_t active, bool three_axes, const float sections[], float gain, size_t *cursor,
-                          const float *targets, size_t targets_len, float *records, size_t records_len,
+                          uint32_t active, bool three_axes, const float sections[], float gain, uint32_t count, const float offsets[],
+                          size_t *cursor, const float *targets, size_t targets_len, float *records, size_t records_len,
                           float *delay, size_t delay_len, size_t frames, const float *pitch, size_t pitch_len, bool steered,
                           const float *x, size_t x_len, const float *y, size_t y_len, float *audio, size_t audio_len,
                           uint32_t *counts, size_t counts_len, size_t *rendered);
@@ -252,35 +266,37 @@ uint32_t sentivolus_block(uint32_t code, float rate, float reference, size_t voi
 /* As sentivolus_block on a copy of the bank, made in the scratch lists, whatever they hold; *scratch_cursor becomes the copy's new cursor. The bank's
  * lists stay as they are, and its cursor is the caller's to keep. */
 uint32_t sentivolus_audition(uint32_t code, float rate, float reference, size_t voices, size_t channels, bool clean,
-                             uint32_t active, bool three_axes, const float sections[], float gain, size_t cursor,
-                             const float *targets, size_t targets_len, const float *records, size_t records_len,
+                             uint32_t active, bool three_axes, const float sections[], float gain, uint32_t count, const float offsets[],
+                             size_t cursor, const float *targets, size_t targets_len, const float *records, size_t records_len,
                              const float *delay, size_t delay_len, size_t *scratch_cursor,
                              float *scratch_targets, size_t scratch_targets_len, float *scratch_records, size_t scratch_records_len,
                              float *scratch_delay, size_t scratch_delay_len, size_t frames, const float *pitch, size_t pitch_len, bool steered,
                              const float *x, size_t x_len, const float *y, size_t y_len, float *audio, size_t audio_len,
                              uint32_t *counts, size_t counts_len, size_t *rendered);
 
-/* The bytes of the file that a bank of this setup is parked in, whatever its table; 0 for a setup that is refused. */
+/* The bytes of the file that a bank of this setup is parked in, whatever its structure, table and chord; 0 for a setup that is refused. */
 size_t sentivolus_park_len(uint32_t code, float rate, float reference, size_t voices, size_t channels, bool clean,
-                           uint32_t active, bool three_axes, const float sections[], float gain);
+                           uint32_t active, bool three_axes, const float sections[], float gain, uint32_t count, const float offsets[]);
 
 /* Parks a bank in a file of exactly that length. The bank stays as it is. */
 uint32_t sentivolus_park(uint32_t code, float rate, float reference, size_t voices, size_t channels, bool clean,
-                         uint32_t active, bool three_axes, const float sections[], float gain, size_t cursor,
-                         const float *targets, size_t targets_len, const float *records, size_t records_len,
+                         uint32_t active, bool three_axes, const float sections[], float gain, uint32_t count, const float offsets[],
+                         size_t cursor, const float *targets, size_t targets_len, const float *records, size_t records_len,
                          const float *delay, size_t delay_len, uint8_t *file, size_t file_len);
 
 /* The setup and the cursor of a parked file, from which the lengths of the lists follow. Like sentivolus_restore it may read *clean and *three_axes
  * before it writes them. */
 uint32_t sentivolus_parked_setup(const uint8_t *file, size_t file_len, uint32_t *code, float *rate, float *reference,
                                  size_t *voices, size_t *channels, bool *clean,
-                                 uint32_t *active, bool *three_axes, float sections[], float *gain, size_t *cursor);
+                                 uint32_t *active, bool *three_axes, float sections[], float *gain,
+                                 uint32_t *count, float offsets[], size_t *cursor);
 
 /* Restores the bank of a parked file: its lists, its setup and its cursor. */
 uint32_t sentivolus_restore(const uint8_t *file, size_t file_len, float *targets, size_t targets_len, float *records, size_t records_len,
                             float *delay, size_t delay_len, uint32_t *code, float *rate, float *reference,
                             size_t *voices, size_t *channels, bool *clean,
-                            uint32_t *active, bool *three_axes, float sections[], float *gain, size_t *cursor);
+                            uint32_t *active, bool *three_axes, float sections[], float *gain,
+                            uint32_t *count, float offsets[], size_t *cursor);
 
 /* The ten default settings, in the order of sentivolus_params. */
 void sentivolus_defaults(float out[10]);
@@ -313,6 +329,12 @@ float sentivolus_gain(float pitch, float reference_over_rate);
 /* A read of a slot's ring, `delay` samples back from the cursor, held to 2 .. len - 3: 0 where len is no power of two from 1,024 to 65,536 or the
  * slot ends past the list. */
 float sentivolus_read(const float *buf, size_t buf_len, size_t len, size_t cursor, size_t slot, float delay);
+
+/* The teeth of a chord read together, each cell that they need once: tap i is what sentivolus_read gives at delay 1 / (ratio x sentivolus_exp2(offset)),
+ * those past the last tooth are 0. `ratio` is in cycles a sample and taken as it is. Answers the size of the set of those cells, 0 where sentivolus_read
+ * gives 0 for want of a ring. It refuses nothing: a count above 8 reads 8, one of 0 none. */
+size_t sentivolus_chord_read(const float *buf, size_t buf_len, size_t len, size_t cursor, size_t slot, float ratio,
+                             uint32_t count, const float offsets[8], float taps[8]);
 
 /* One state-variable stage with gain g and damping k: band, low, and the states ic1 and ic2 after it. */
 void sentivolus_svf(float ic1, float ic2, float x, float g, float k, float out[4]);
@@ -351,7 +373,8 @@ static inline void sentivolus_floats_leave(unsigned before)
         _mm_setcsr(before);
 }
 
-/* A setup with reference 440, no clean drive and a pole-zero table of two axes that passes its input. */
+/* A setup with reference 440, no clean drive, a pole-zero table of two axes that passes its input, and no chord: a chord comb wants one before it is
+ * opened. */
 static inline sentivolus_setup sentivolus_new_setup(uint32_t code, float rate, size_t voices, size_t channels)
 {
     sentivolus_setup s;
@@ -366,6 +389,9 @@ static inline sentivolus_setup sentivolus_new_setup(uint32_t code, float rate, s
     for (size_t i = 0; i < SENTIVOLUS_SECTIONS; i++)
         s.table.sections[i] = 0.0f;
     s.table.three_axes = false;
+    s.chord.count = 0;
+    for (size_t i = 0; i < SENTIVOLUS_TEETH; i++)
+        s.chord.offsets[i] = 0.0f;
     return s;
 }
 
@@ -393,13 +419,13 @@ static inline sentivolus_params sentivolus_default_params(void)
 /* A setup and a bank's lists as the archive's symbols take them, and a setup as they write it. */
 #define SENTIVOLUS_SETUP_OF(s) \
     (s)->code, (s)->rate, (s)->reference, (s)->voices, (s)->channels, (s)->clean, \
-    (s)->table.active, (s)->table.three_axes, (s)->table.sections, (s)->table.gain
+    (s)->table.active, (s)->table.three_axes, (s)->table.sections, (s)->table.gain, (s)->chord.count, (s)->chord.offsets
 #define SENTIVOLUS_LISTS_OF(b) (b)->targets, (b)->targets_len, (b)->records, (b)->records_len, (b)->delay, (b)->delay_len
 #define SENTIVOLUS_SETUP_TO(s) \
     &(s)->code, &(s)->rate, &(s)->reference, &(s)->voices, &(s)->channels, &(s)->clean, \
-    &(s)->table.active, &(s)->table.three_axes, (s)->table.sections, &(s)->table.gain
+    &(s)->table.active, &(s)->table.three_axes, (s)->table.sections, &(s)->table.gain, &(s)->chord.count, (s)->chord.offsets
 
-/* 0 for a setup that can be opened, or 1 to 5. */
+/* 0 for a setup that can be opened, or 1 to 5 or 16. */
 static inline sentivolus_refusal sentivolus_setup_check(const sentivolus_setup *s)
 {
     float none = 0.0f;
@@ -515,8 +541,8 @@ static inline float sentivolus_bank_peak(const sentivolus_setup *s, const sentiv
     return b->records[SENTIVOLUS_RECORD * slot + SENTIVOLUS_PEAK];
 }
 
-/* Parks a bank in a file of sentivolus_file_len(s) bytes. The bank stays as it is. Refusals 1 to 6 and then 15; 6 measures the file too. A voice whose
- * morph_z was not +0 meets 15 until it is set to +0 and started: a glide alone does not come to 0. */
+/* Parks a bank in a file of sentivolus_file_len(s) bytes. The bank stays as it is. Refusals 1 to 6 and then 15; 6 measures the file too. A chord comb
+ * always meets 15. A voice whose morph_z was not +0 meets it until it is set to +0 and started: a glide alone does not come to 0. */
 static inline sentivolus_refusal sentivolus_bank_park(const sentivolus_setup *s, const sentivolus_bank *b, uint8_t *file, size_t file_len)
 {
     unsigned before = sentivolus_floats_enter();
@@ -542,9 +568,9 @@ static inline sentivolus_refusal sentivolus_file_setup(const uint8_t *file, size
     return (sentivolus_refusal)answer;
 }
 
-/* Restores a parked bank: *s, the lists and b->cursor become, bit by bit, those that were parked, whatever they were; the face at z = 1, which was
- * ignored, becomes 0. Refusals, in this order: 12; 13 for a kind 1 part missing or doubled or the clean word; 1 to 5 of the file's setup; 13 for any
- * other block; 6 of the lists. */
+/* Restores a parked bank: *s, the lists and b->cursor become, bit by bit, those that were parked, whatever they were; the face at z = 1 and the chord,
+ * which were ignored, become 0. Refusals, in this order: 12; 13 for a kind 1 part missing or doubled or the clean word; 1 to 5 of the file's setup,
+ * in which a chord comb's code meets 5; 13 for any other block; 6 of the lists. */
 static inline sentivolus_refusal sentivolus_bank_restore(const uint8_t *file, size_t file_len, sentivolus_setup *s, sentivolus_bank *b)
 {
     sentivolus_setup parked = sentivolus_new_setup(0, 0.0f, 0, 0);

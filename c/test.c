@@ -1,6 +1,7 @@
 /* What the declarations cannot say: that the calls give the same bits in every float environment and give the caller's back, that each number
  * arrives where it is meant to, that a parked file is as the header lays it out, that peaks are of the samples handed back, that an audition is the
- * block and leaves the bank, what the third axis does, and that the stack suffices. Prints `c: N checks` and answers 0, or says which failed. */
+ * block and leaves the bank, what the third axis and the chord comb do, and that the stack suffices. Prints `c: N checks` and answers 0, or says which
+ * failed. */
 #define _GNU_SOURCE
 #include "sentivolus.h"
 #include <math.h>
@@ -9,6 +10,9 @@
 #include <string.h>
 
 enum { VOICES = 2, CHANNELS = 2, SLOTS = VOICES * CHANNELS, FRAMES = 256, RING = 8192 };
+
+/* The last code, and the last of those that can be parked. */
+enum { CODES = SENTIVOLUS_CHORD_COMB, PARKED_CODES = SENTIVOLUS_K35 };
 
 /* A parked file's blocks: their bytes, the words that each holds, and how many there are of these voices. */
 enum { BYTES = 512, HELD = 126, BLOCKS = 2 + VOICES + SLOTS + SLOTS * ((RING + HELD - 1) / HELD), FILE_LEN = BYTES * BLOCKS };
@@ -66,7 +70,11 @@ static void lend(sentivolus_bank *b, float *targets, float *records, float *dela
     *b = lent;
 }
 
-/* Lists full of 0.5, a scratch of 0.25, counts and a file of 7; noise, loud for voice 0 and about the smallest normal number for voice 1. */
+/* A major chord. */
+static const sentivolus_chord major = {3, {0, 4.0f / 12, 7.0f / 12, 0, 0, 0, 0, 0}};
+
+/* Lists full of 0.5, a scratch of 0.25, counts and a file of 7; noise, loud for voice 0 and about the smallest normal number for voice 1. A chord comb
+ * has its chord. */
 static void make(session *t, uint32_t code)
 {
     uint32_t noise = 1;
@@ -80,6 +88,8 @@ static void make(session *t, uint32_t code)
         t->audio[i] = t->heard[i] = ldexpf((float)(int32_t)noise, i % VOICES == 0 ? -32 : -32 - 124);
     }
     t->setup = sentivolus_new_setup(code, 48000.0f, VOICES, CHANNELS);
+    if (code == SENTIVOLUS_CHORD_COMB)
+        t->setup.chord = major;
     t->input.frames = FRAMES;
     t->input.pitch = pitch;
     t->input.pitch_len = FRAMES * VOICES;
@@ -122,7 +132,7 @@ static sentivolus_params loud(void)
     return p;
 }
 
-/* A whole sitting in the float environment of `mxcsr`, which the calls must leave as it is. */
+/* A whole sitting in the float environment of `mxcsr`, which the calls must leave as it is. A chord comb is not parked. */
 static void run(session *t, uint32_t code, unsigned mxcsr)
 {
     sentivolus_design design = bells();
@@ -137,21 +147,25 @@ static void run(session *t, uint32_t code, unsigned mxcsr)
     sentivolus_refusal auditioned = audition(t, SLOTS);
     sentivolus_refusal rendered = render(t, SLOTS);
     size_t file_len = sentivolus_file_len(&t->setup);
-    sentivolus_refusal parked = sentivolus_bank_park(&t->setup, &t->bank, t->file, file_len);
-    spoil(t);
-    sentivolus_refusal read = sentivolus_file_setup(t->file, file_len, &t->setup, NULL);
-    sentivolus_refusal restored = sentivolus_bank_restore(t->file, file_len, &t->setup, &t->bank);
+    sentivolus_refusal parked = sentivolus_bank_park(&t->setup, &t->bank, t->file, file_len), read = SENTIVOLUS_ACCEPTED, restored = SENTIVOLUS_ACCEPTED;
+    if (code <= PARKED_CODES) {
+        spoil(t);
+        read = sentivolus_file_setup(t->file, file_len, &t->setup, NULL);
+        restored = sentivolus_bank_restore(t->file, file_len, &t->setup, &t->bank);
+    }
     unsigned after = _mm_getcsr();
     _mm_setcsr(before);
     check((after & ~SENTIVOLUS_MXCSR_FLAGS) == (mxcsr & ~SENTIVOLUS_MXCSR_FLAGS), "the caller's MXCSR comes back", (int)mxcsr);
-    check(!opened && !set && !started && !auditioned && !rendered && !parked && !read && !restored, "every call is accepted", (int)code);
+    check(!opened && !set && !started && !auditioned && !rendered && !read && !restored, "every call is accepted", (int)code);
+    check(parked == (code <= PARKED_CODES ? SENTIVOLUS_ACCEPTED : SENTIVOLUS_REFUSED_UNPARKABLE), "a park of every code but the chord comb's", (int)code);
 }
 
 static int same_setup(const sentivolus_setup *a, const sentivolus_setup *b)
 {
     return a->code == b->code && a->rate == b->rate && a->reference == b->reference && a->voices == b->voices && a->channels == b->channels &&
            a->clean == b->clean && a->table.active == b->table.active && a->table.gain == b->table.gain &&
-           a->table.three_axes == b->table.three_axes && !memcmp(a->table.sections, b->table.sections, sizeof a->table.sections);
+           a->table.three_axes == b->table.three_axes && !memcmp(a->table.sections, b->table.sections, sizeof a->table.sections) &&
+           a->chord.count == b->chord.count && !memcmp(a->chord.offsets, b->chord.offsets, sizeof a->chord.offsets);
 }
 
 /* The same lists, setup and cursor of two banks. */
@@ -197,7 +211,7 @@ static void raw_block(session *t, uint32_t code, unsigned mxcsr)
     unsigned before = _mm_getcsr();
     _mm_setcsr(mxcsr);
     sentivolus_block(s->code, s->rate, s->reference, s->voices, s->channels, s->clean,
-                     s->table.active, s->table.three_axes, s->table.sections, s->table.gain, &cursor,
+                     s->table.active, s->table.three_axes, s->table.sections, s->table.gain, s->chord.count, s->chord.offsets, &cursor,
                      b->targets, b->targets_len, b->records, b->records_len, b->delay, b->delay_len, FRAMES, pitch, FRAMES * VOICES, false,
                      NULL, 0, NULL, 0, t->audio, FRAMES * SLOTS, t->counts, SLOTS, &rendered);
     _mm_setcsr(before);
@@ -209,7 +223,7 @@ static const unsigned modes[] = {0x9FC0, 0x3F80, 0x5F80, 0x7F80, 0x0000, 0xE040}
 static void float_environments(void)
 {
     int flushed = 0, rounded = 0;
-    for (uint32_t code = 1; code <= 12; code++) {
+    for (uint32_t code = 1; code <= CODES; code++) {
         run(&usual, code, SENTIVOLUS_MXCSR);
         for (size_t m = 0; m < sizeof modes / sizeof modes[0]; m++) {
             run(&other, code, modes[m]);
@@ -221,28 +235,30 @@ static void float_environments(void)
         raw_block(&other, code, modes[2]);
         rounded += !same(&usual, &other);
     }
-    check(flushed == 12, "the archive's own block gives other bits with FTZ and DAZ, in every code: the comparison sees them", flushed);
-    check(rounded == 12, "and with another rounding", rounded);
+    check(flushed == CODES, "the archive's own block gives other bits with FTZ and DAZ, in every code: the comparison sees them", flushed);
+    check(rounded == CODES, "and with another rounding", rounded);
 }
 
 static void refusals(void)
 {
     static const char *const words[] = {"accepted", "rate", "tuning", "polyphony", "layout", "structure", "store",
-                                        "voice", "knob", "frames", "buffer", "point", "damaged", "blocks", "scratch", "unparkable", "unknown"};
+                                        "voice", "knob", "frames", "buffer", "point", "damaged", "blocks", "scratch", "unparkable", "chord", "unknown"};
+    static const uint32_t of_setup[] = {1, 2, 3, 4, 5, 16};
     sentivolus_design design = sentivolus_new_design();
     sentivolus_params p = sentivolus_default_params();
     sentivolus_bank none = {NULL, 0, NULL, 0, NULL, 0, 0};
     float out[5] = {1, 2, 3, 4, 5};
     session *t = &other;
-    for (uint32_t n = 0; n < 17; n++)
+    for (uint32_t n = 0; n < 18; n++)
         check(!strcmp(sentivolus_refusal_word(n), words[n]), "a refusal's word", (int)n);
-    for (uint32_t n = 1; n <= 5; n++) {
+    for (size_t i = 0; i < sizeof of_setup / sizeof of_setup[0]; i++) {
+        uint32_t n = of_setup[i];
         make(t, 9);
         t->setup.rate = n == 1 ? 7999.0f : t->setup.rate;
         t->setup.reference = n == 2 ? NAN : t->setup.reference;
         t->setup.voices = n == 3 ? SIZE_MAX : VOICES;
         t->setup.channels = n == 4 ? 3 : CHANNELS;
-        t->setup.code = n == 5 ? 13 : 9;
+        t->setup.code = n == 5 ? CODES + 1 : n == 16 ? SENTIVOLUS_CHORD_COMB : 9;
         check(sentivolus_setup_check(&t->setup) == n, "the setup's refusal", (int)n);
         check(sentivolus_bank_open(&t->setup, &t->bank) == n && t->bank.cursor == 99, "open's refusal", (int)n);
         check(sentivolus_targets_len(&t->setup) + sentivolus_records_len(&t->setup) + sentivolus_delay_len(&t->setup) == 0, "no lengths", (int)n);
@@ -323,8 +339,8 @@ static void meter(void)
     sentivolus_params p = sentivolus_default_params();
     session *t = &other;
     p.stereo_offset = 20;
-    for (uint32_t code = 1; code <= 12; code++) {
-        uint32_t each = code == SENTIVOLUS_POLE_ZERO ? 8 : code == SENTIVOLUS_COMB2 ? 2 : 1;
+    for (uint32_t code = 1; code <= CODES; code++) {
+        uint32_t each = code == SENTIVOLUS_POLE_ZERO ? 8 : code == SENTIVOLUS_COMB2 ? 2 : code == SENTIVOLUS_CHORD_COMB ? major.count : 1;
         make(t, code);
         for (size_t f = 0; f < FRAMES; f++) {
             pitches[f * VOICES] = f < 100 ? 200.0f : 20.0f;
@@ -434,7 +450,7 @@ static void parking(void)
 {
     sentivolus_design design = bells();
     session *t = &usual, *u = &other;
-    for (uint32_t code = 1; code <= 12; code++) {
+    for (uint32_t code = 1; code <= PARKED_CODES; code++) {
         size_t cursor = 0;
         raw_block(t, code, SENTIVOLUS_MXCSR);
         t->setup.table = sentivolus_design_table(&design);
@@ -536,7 +552,7 @@ static const struct fault {
     {0, 6, 0x7FC00000, SENTIVOLUS_REFUSED_TUNING},
     {0, 2, 0xFFFFFFFF, SENTIVOLUS_REFUSED_POLYPHONY},
     {0, 3, 3, SENTIVOLUS_REFUSED_LAYOUT},
-    {0, 1, 13, SENTIVOLUS_REFUSED_STRUCTURE},
+    {0, 1, SENTIVOLUS_CHORD_COMB, SENTIVOLUS_REFUSED_STRUCTURE},
     {BLOCKS - 1, 0, 3, SENTIVOLUS_REFUSED_BLOCKS},          /* slot 0's record doubled */
     {BLOCKS - 1, 0, 0x420304, SENTIVOLUS_REFUSED_BLOCKS}    /* a ring's part 66, unknown */
 };
@@ -548,7 +564,16 @@ static uint32_t raw_restore(session *t, size_t length)
     sentivolus_bank *b = &t->bank;
     return sentivolus_restore(t->file, length, b->targets, b->targets_len, b->records, b->records_len, b->delay, b->delay_len,
                               &s->code, &s->rate, &s->reference, &s->voices, &s->channels, &s->clean,
-                              &s->table.active, &s->table.three_axes, s->table.sections, &s->table.gain, &b->cursor);
+                              &s->table.active, &s->table.three_axes, s->table.sections, &s->table.gain, &s->chord.count, s->chord.offsets, &b->cursor);
+}
+
+/* The same of the setup alone. */
+static uint32_t raw_setup(session *t, size_t length)
+{
+    sentivolus_setup *s = &t->setup;
+    return sentivolus_parked_setup(t->file, length, &s->code, &s->rate, &s->reference, &s->voices, &s->channels, &s->clean,
+                                   &s->table.active, &s->table.three_axes, s->table.sections, &s->table.gain, &s->chord.count, s->chord.offsets,
+                                   &t->bank.cursor);
 }
 
 /* A wrong length, a wrong sum; then all the faults above, and one less each time, the first mended; then the lists alone. */
@@ -607,7 +632,7 @@ static void peaks(void)
 {
     const float none[SLOTS] = {0};
     session *t = &other;
-    for (uint32_t code = 1; code <= 12; code++) {
+    for (uint32_t code = 1; code <= CODES; code++) {
         sentivolus_params p = loud();
         float greatest[SLOTS] = {0};
         make(t, code);
@@ -620,9 +645,11 @@ static void peaks(void)
             check(peaks_are(t, greatest), "the peaks of the samples so far", (int)code);
         }
         check(greatest[0] > greatest[1] && greatest[2] > greatest[3], "voice 0 is the louder", (int)code);
-        check(!sentivolus_bank_park(&t->setup, &t->bank, t->file, FILE_LEN), "peaks parked", (int)code);
-        spoil(t);
-        check(!sentivolus_bank_restore(t->file, FILE_LEN, &t->setup, &t->bank) && peaks_are(t, greatest), "peaks restored", (int)code);
+        if (code <= PARKED_CODES) {
+            check(!sentivolus_bank_park(&t->setup, &t->bank, t->file, FILE_LEN), "peaks parked", (int)code);
+            spoil(t);
+            check(!sentivolus_bank_restore(t->file, FILE_LEN, &t->setup, &t->bank) && peaks_are(t, greatest), "peaks restored", (int)code);
+        }
         greatest[1] = greatest[3] = 0;
         check(!sentivolus_bank_start(&t->setup, &t->bank, 1) && peaks_are(t, greatest), "a start clears its voice's peaks", (int)code);
 
@@ -704,7 +731,8 @@ static void auditions(void)
         x[i] = 0.125f * (float)(i % 7);
         y[i] = 0.25f * (float)(i % 3);
     }
-    for (uint32_t code = 1; code <= 12; code++) {
+    for (uint32_t code = 1; code <= CODES; code++) {
+        int comb = code == SENTIVOLUS_COMB2 || code == SENTIVOLUS_CHORD_COMB;
         raw_block(t, code, SENTIVOLUS_MXCSR);
         t->setup.table = sentivolus_design_table(&design);
         t->setup.table.gain = 0.75f;
@@ -718,7 +746,7 @@ static void auditions(void)
         check(!audition(t, SLOTS) && same_bank(t, &kept), "an audition leaves the bank", (int)code);
         check(memcmp(t->heard, kept.heard, sizeof t->heard) && t->heard_counts[0] > 0 && t->heard_counts[0] != 7 && t->heard_counts[SLOTS] == 7,
               "something is heard and counted", (int)code);
-        check(t->scratch.cursor == t->bank.cursor + (code == SENTIVOLUS_COMB2 ? FRAMES : 0), "the copy's cursor", (int)code);
+        check(t->scratch.cursor == t->bank.cursor + (comb ? FRAMES : 0), "the copy's cursor", (int)code);
         check(!render(t, SLOTS) && as_heard(t), "the block is what was heard", (int)code);
         check(!render(t, SLOTS) && !sentivolus_bank_block(&t->setup, &t->scratch, &t->input, t->heard, FRAMES * SLOTS, t->heard_counts, SLOTS) &&
               as_heard(t), "the next block of bank and scratch", (int)code);
@@ -733,7 +761,7 @@ static uint32_t raw_audition(session *t, size_t counts, size_t *rendered)
     const sentivolus_input *in = &t->input;
     sentivolus_bank *c = &t->scratch;
     return sentivolus_audition(s->code, s->rate, s->reference, s->voices, s->channels, s->clean,
-                               s->table.active, s->table.three_axes, s->table.sections, s->table.gain, b->cursor,
+                               s->table.active, s->table.three_axes, s->table.sections, s->table.gain, s->chord.count, s->chord.offsets, b->cursor,
                                b->targets, b->targets_len, b->records, b->records_len, b->delay, b->delay_len, &c->cursor,
                                c->targets, c->targets_len, c->records, c->records_len, c->delay, c->delay_len, in->frames, in->pitch, in->pitch_len,
                                in->steered, in->x, in->x_len, in->y, in->y_len, t->heard, FRAMES * SLOTS, t->heard_counts, counts, rendered);
@@ -752,23 +780,24 @@ static void refused_audition(session *t, size_t counts, uint32_t refusal, const 
 /* All faults of an audition, and one less each time, the first mended; then the scratch alone, each list too short, too long and empty. */
 static void audition_refusals(void)
 {
-    static const uint32_t refusals[] = {1, 2, 3, 4, 5, 6, 9, 10, 10, 14};
+    static const uint32_t refusals[] = {1, 2, 3, 4, 5, 16, 6, 9, 10, 10, 14};
     static float longer[RING * SLOTS + 1];
     static const float blank[RING * SLOTS + 1];
     const size_t count = sizeof refusals / sizeof refusals[0];
     session *t = &usual;
     size_t rendered = 77;
     for (size_t first = 0; first < count; first++) {
-        make(t, first <= 4 ? 13 : SENTIVOLUS_COMB2);
+        make(t, first <= 4 ? CODES + 1 : SENTIVOLUS_CHORD_COMB);
         t->setup.rate = first <= 0 ? 7999.0f : t->setup.rate;
         t->setup.reference = first <= 1 ? NAN : t->setup.reference;
         t->setup.voices = first <= 2 ? SIZE_MAX : VOICES;
         t->setup.channels = first <= 3 ? 3 : CHANNELS;
-        t->bank.records_len -= first <= 5;
-        t->input.frames = first <= 6 ? 4097 : FRAMES;
-        t->input.pitch_len -= first <= 7;
+        t->setup.chord.offsets[0] = first <= 5 ? NAN : 0;
+        t->bank.records_len -= first <= 6;
+        t->input.frames = first <= 7 ? 4097 : FRAMES;
+        t->input.pitch_len -= first <= 8;
         t->scratch.delay_len--;
-        refused_audition(t, first <= 8 ? SLOTS + 1 : SLOTS, refusals[first], "an audition's refusal", (int)first);
+        refused_audition(t, first <= 9 ? SLOTS + 1 : SLOTS, refusals[first], "an audition's refusal", (int)first);
     }
     for (int i = 0; i < 9; i++) {
         make(t, SENTIVOLUS_COMB2);
@@ -857,7 +886,7 @@ static void z_settings(void)
         float given, target;
     } zs[] = {{NAN, 0}, {-1, 0}, {-0.0f, -0.0f}, {0.5f, 0.5f}, {2, 1}, {INFINITY, 1}, {-INFINITY, 0}};
     session *t = &usual;
-    for (uint32_t code = 1; code <= 12; code++) {
+    for (uint32_t code = 1; code <= CODES; code++) {
         sentivolus_params p = sentivolus_default_params();
         make(t, code);
         check(!sentivolus_bank_open(&t->setup, &t->bank) && z_is(t, 0, 0), "z of an opened bank", (int)code);
@@ -927,7 +956,7 @@ static void unparkable(void)
 {
     static session kept;
     session *t = &usual;
-    for (uint32_t code = 1; code <= 12; code++)
+    for (uint32_t code = 1; code <= PARKED_CODES; code++)
         for (int what = 0; what < 6; what++) {
             make(t, code);
             t->setup.table.three_axes = what == 0;
@@ -975,6 +1004,225 @@ static void two_axes_parked(void)
     check(!sentivolus_file_setup(t->file, FILE_LEN, &t->setup, NULL) && same_setup(&t->setup, &u->setup), "so has the setup of its file", 0);
 }
 
+/* ---- the chord comb */
+
+/* Up to eight teeth: near together, and over two octaves. */
+static const float near_offsets[SENTIVOLUS_TEETH] = {0, 0.001f, 0.002f, 0.003f, 0.004f, 0.005f, 0.006f, 0.007f};
+static const float far_offsets[SENTIVOLUS_TEETH] = {0, 0.25f, 0.5f, 0.75f, 1, 1.25f, 1.5f, 2};
+
+static sentivolus_chord chord_of(uint32_t count, const float offsets[SENTIVOLUS_TEETH])
+{
+    sentivolus_chord c;
+    c.count = count;
+    memcpy(c.offsets, offsets, sizeof c.offsets);
+    return c;
+}
+
+/* The delay of a tooth. */
+static float tooth(float ratio, float offset)
+{
+    float product = ratio * sentivolus_exp2(offset);
+    return 1.0f / product;
+}
+
+/* Of a ring of 1,024 cells how many the teeth need: for each, from one step nearer than the whole part of its held delay to two farther. */
+static size_t cells_needed(float ratio, const sentivolus_chord *c)
+{
+    unsigned char needed[1024] = {0};
+    size_t size = 0;
+    for (size_t j = 0; j < c->count; j++) {
+        float delay = tooth(ratio, c->offsets[j]);
+        size_t whole = (size_t)(delay >= 2 ? delay <= 1021 ? delay : 1021 : 2);
+        memset(needed + whole - 1, 1, 4);
+    }
+    for (size_t i = 0; i < sizeof needed; i++)
+        size += needed[i];
+    return size;
+}
+
+/* One reading of two slots' rings: the second's teeth, each as a single read, and the size of the set of their cells. */
+static void one_reading(float ratio, const sentivolus_chord *c, size_t cursor, int which)
+{
+    static float cells[2048];
+    float taps[SENTIVOLUS_TEETH];
+    int right = 1;
+    for (size_t i = 0; i < 2048; i++)
+        cells[i] = (float)(37 * i % 1009);
+    memset(taps, 255, sizeof taps);
+    size_t size = sentivolus_chord_read(cells, 2048, 1024, cursor, 1, ratio, c->count, c->offsets, taps);
+    for (size_t j = 0; j < SENTIVOLUS_TEETH; j++)
+        right &= same_bits(taps[j], j < c->count ? sentivolus_read(cells, 2048, 1024, cursor, 1, tooth(ratio, c->offsets[j])) : 0);
+    check(right, "each tooth is a single read", which);
+    check(size == cells_needed(ratio, c), "the size of the set of cells", which);
+}
+
+static void readings(void)
+{
+    const float ratios[] = {0.49f, 0.3f, 0.01f, 0.0015f, 1e-9f, 0, -0.0f, -1, 1, INFINITY, NAN};
+    const size_t views[][2] = {{1024, 1}, {1024, SIZE_MAX}, {1000, 0}, {512, 0}, {0, 0}, {2048, 0}, {131072, 0}};
+    const float zeros[SENTIVOLUS_TEETH] = {0};
+    static float cells[1024];
+    float taps[SENTIVOLUS_TEETH], nine[SENTIVOLUS_TEETH];
+    for (size_t i = 0; i < sizeof ratios / sizeof ratios[0]; i++)
+        for (uint32_t count = 0; count <= SENTIVOLUS_TEETH; count++) {
+            sentivolus_chord together = chord_of(count, near_offsets), apart = chord_of(count, far_offsets);
+            one_reading(ratios[i], &together, 5, (int)(100 * i + count));
+            one_reading(ratios[i], &apart, SIZE_MAX - 5, (int)(100 * i + count));
+        }
+    cells[0] = 0.5f;
+    size_t of_8 = sentivolus_chord_read(cells, 1024, 1024, 7, 0, 0.2f, 8, far_offsets, taps);
+    size_t of_9 = sentivolus_chord_read(cells, 1024, 1024, 7, 0, 0.2f, UINT32_MAX, far_offsets, nine);
+    check(of_8 == of_9 && of_8 > 4 && !memcmp(taps, nine, sizeof taps), "a count above 8 reads 8", 0);
+    for (size_t i = 0; i < sizeof views / sizeof views[0]; i++) {
+        memset(taps, 255, sizeof taps);
+        check(sentivolus_chord_read(cells, 1024, views[i][0], 5, views[i][1], 0.01f, 3, major.offsets, taps) == 0 && !memcmp(taps, zeros, sizeof taps),
+              "a view that reads 0", (int)i);
+    }
+}
+
+/* A bank that has rendered two blocks, both voices at a character and started, of a code and a chord. */
+static void render_chord(session *t, uint32_t code, const sentivolus_chord *c, float character)
+{
+    sentivolus_params p = loud();
+    p.character = character;
+    make(t, code);
+    t->setup.chord = *c;
+    t->setup.reference = 4400; /* so that some pitches are over the ceiling */
+    check(!sentivolus_bank_open(&t->setup, &t->bank), "a bank with a chord", (int)code);
+    for (size_t voice = 0; voice < VOICES; voice++)
+        check(!sentivolus_bank_set(&t->setup, &t->bank, voice, &p) && !sentivolus_bank_start(&t->setup, &t->bank, voice), "a voice of it", (int)voice);
+    for (int block = 0; block < 2; block++)
+        check(!render(t, SLOTS), "a block of it", block);
+}
+
+/* The same lists, cursor, audio and counts, whatever the setups. */
+static int sound_the_same(const session *a, const session *b)
+{
+    return !memcmp(a->targets, b->targets, sizeof a->targets) && !memcmp(a->records, b->records, sizeof a->records) &&
+           !memcmp(a->delay, b->delay, sizeof a->delay) && !memcmp(a->audio, b->audio, sizeof a->audio) &&
+           !memcmp(a->counts, b->counts, sizeof a->counts) && a->bank.cursor == b->bank.cursor;
+}
+
+/* Comb2 is the chord of offsets 0 and twice its character; other chords sound otherwise; character does nothing to them. */
+static void chords_and_comb2(void)
+{
+    session *t = &usual, *u = &other;
+    const sentivolus_chord none = chord_of(0, far_offsets);
+    for (int i = 0; i <= 8; i++) {
+        float character = (float)i / 8;
+        sentivolus_chord two = chord_of(2, far_offsets);
+        two.offsets[1] = 2 * character;
+        render_chord(t, SENTIVOLUS_COMB2, &none, character);
+        render_chord(u, SENTIVOLUS_CHORD_COMB, &two, character);
+        check(sound_the_same(t, u) && t->counts[0] > 0 && t->bank.cursor == 2 * FRAMES, "Comb2 as a chord", i);
+    }
+    render_chord(t, SENTIVOLUS_CHORD_COMB, &major, 0);
+    check(!sound_the_same(t, u) && t->counts[0] % 3 == 0 && 2 * t->counts[0] == 3 * u->counts[0], "another chord, judged once a tooth", 0);
+    render_chord(u, SENTIVOLUS_CHORD_COMB, &major, 1);
+    check(!memcmp(t->audio, u->audio, sizeof t->audio), "character does nothing to a chord", 0);
+    sentivolus_chord turned = major;
+    turned.offsets[0] = major.offsets[2];
+    turned.offsets[2] = major.offsets[0];
+    render_chord(u, SENTIVOLUS_CHORD_COMB, &turned, 0);
+    check(memcmp(t->audio, u->audio, sizeof t->audio) != 0, "the taps are summed in list order", 0);
+}
+
+/* Offsets past the last tooth, and all of the chord in any other structure, are ignored, whatever they hold. */
+static void ignored_chords(void)
+{
+    session *t = &usual, *u = &other;
+    sentivolus_chord c = major, d = chord_of(UINT32_MAX, far_offsets);
+    const sentivolus_chord none = {0, {0}};
+    for (size_t j = 3; j < SENTIVOLUS_TEETH; j++)
+        c.offsets[j] = j % 2 ? NAN : -1;
+    d.offsets[0] = NAN;
+    render_chord(t, SENTIVOLUS_CHORD_COMB, &major, 0.5f);
+    render_chord(u, SENTIVOLUS_CHORD_COMB, &c, 0.5f);
+    check(sound_the_same(t, u), "offsets past the last tooth", 0);
+    for (uint32_t code = 1; code <= PARKED_CODES; code++) {
+        render_chord(t, code, &none, 0.5f);
+        render_chord(u, code, &d, 0.5f);
+        check(sound_the_same(t, u), "a chord of another structure", (int)code);
+        check(!sentivolus_bank_park(&t->setup, &t->bank, t->file, FILE_LEN) && !sentivolus_bank_park(&u->setup, &u->bank, u->file, FILE_LEN) &&
+              !memcmp(t->file, u->file, FILE_LEN), "it is not parked", (int)code);
+        check(!raw_restore(u, FILE_LEN) && same(t, u), "and comes back as 0", (int)code);
+        u->setup.chord = d;
+        check(!raw_setup(u, FILE_LEN) && same_setup(&t->setup, &u->setup), "so with the setup of its file", (int)code);
+        u->setup.chord = d;
+        check(!sentivolus_file_setup(u->file, FILE_LEN, &u->setup, NULL) && same_setup(&t->setup, &u->setup), "and by the call", (int)code);
+    }
+}
+
+/* Every call with this setup, which is wrong for its chord: 16, after 5 and before 6, and nothing changes. */
+static void refused_chord(session *t, int which)
+{
+    static session kept;
+    sentivolus_params p = sentivolus_default_params();
+    const sentivolus_refusal refusal = SENTIVOLUS_REFUSED_CHORD;
+    size_t short_by = (size_t)which % 2;
+    t->bank.records_len -= short_by;
+    t->bank.targets_len -= short_by;
+    memcpy(&kept, t, sizeof kept);
+    check(sentivolus_setup_check(&t->setup) == refusal && sentivolus_bank_open(&t->setup, &t->bank) == refusal, "a wrong chord", which);
+    check(sentivolus_bank_set(&t->setup, &t->bank, VOICES, &p) == refusal && sentivolus_bank_start(&t->setup, &t->bank, VOICES) == refusal,
+          "set and start with it", which);
+    check(render(t, SLOTS + 1) == refusal && audition(t, SLOTS + 1) == refusal, "block and audition with it", which);
+    check(sentivolus_bank_park(&t->setup, &t->bank, t->file, FILE_LEN - 1) == refusal && !sentivolus_file_len(&t->setup), "park with it", which);
+    check(!memcmp(t, &kept, sizeof kept), "a refused chord changes nothing", which);
+    t->setup.code = CODES + 1;
+    check(sentivolus_bank_open(&t->setup, &t->bank) == SENTIVOLUS_REFUSED_STRUCTURE, "5 before 16", which);
+    t->setup.code = SENTIVOLUS_COMB2;
+    check(!sentivolus_setup_check(&t->setup), "Comb2 with it", which);
+}
+
+static void chord_refusals(void)
+{
+    const uint32_t counts[] = {0, 9, 256, UINT32_MAX};
+    const float wrong[] = {NAN, -1e-45f, -1, -INFINITY, 2.0000002f, 3, INFINITY}, right[] = {0, -0.0f, 1e-45f, 1, 1.9999999f, 2};
+    session *t = &usual;
+    for (size_t i = 0; i < sizeof counts / sizeof counts[0]; i++) {
+        make(t, SENTIVOLUS_CHORD_COMB);
+        t->setup.chord.count = counts[i];
+        refused_chord(t, (int)i);
+    }
+    for (uint32_t count = 1; count <= SENTIVOLUS_TEETH; count++)
+        for (size_t at = 0; at < SENTIVOLUS_TEETH; at++) {
+            for (size_t i = 0; i < sizeof wrong / sizeof wrong[0]; i++) {
+                make(t, SENTIVOLUS_CHORD_COMB);
+                t->setup.chord = chord_of(count, far_offsets);
+                t->setup.chord.offsets[at] = wrong[i];
+                if (at < count)
+                    refused_chord(t, (int)(100 * count + 10 * at + i));
+                else
+                    check(!sentivolus_setup_check(&t->setup), "an offset past the last tooth", (int)(100 * count + 10 * at + i));
+            }
+            for (size_t i = 0; i < sizeof right / sizeof right[0]; i++) {
+                t->setup.chord = chord_of(count, far_offsets);
+                t->setup.chord.offsets[at] = right[i];
+                t->setup.code = SENTIVOLUS_CHORD_COMB;
+                check(!sentivolus_setup_check(&t->setup), "a right offset", (int)(100 * count + 10 * at + i));
+            }
+        }
+}
+
+/* A chord comb is not parked, whatever else; after 6, and nothing is written. */
+static void chords_unparkable(void)
+{
+    static session kept;
+    session *t = &usual;
+    make(t, SENTIVOLUS_CHORD_COMB);
+    memcpy(&kept, t, sizeof kept);
+    check(sentivolus_file_len(&t->setup) == FILE_LEN, "the length of a chord comb's file", 0);
+    check(sentivolus_bank_park(&t->setup, &t->bank, t->file, FILE_LEN) == SENTIVOLUS_REFUSED_UNPARKABLE && !memcmp(t, &kept, sizeof kept),
+          "a chord comb is not parked", 0);
+    check(sentivolus_bank_park(&t->setup, &t->bank, t->file, FILE_LEN - 1) == SENTIVOLUS_REFUSED_STORE, "6 before 15", 13);
+    t->bank.delay_len--;
+    check(sentivolus_bank_park(&t->setup, &t->bank, t->file, FILE_LEN) == SENTIVOLUS_REFUSED_STORE, "6 of a list before 15", 13);
+    t->bank.delay_len++;
+    t->setup.code = SENTIVOLUS_COMB2;
+    check(!sentivolus_bank_park(&t->setup, &t->bank, t->file, FILE_LEN), "the same lists as Comb2's", 0);
+}
+
 /* ---- the stack: what the calls leave untouched of a painted one */
 
 enum { STACK = 1 << 18, PAINT = 0x5A };
@@ -983,15 +1231,18 @@ static unsigned char stack[STACK] __attribute__((aligned(4096)));
 
 static sentivolus_design design;
 
-/* What a sitting does: nothing, the calls with one of the twelve codes, reads the file, or works on the design. */
-enum { IDLE = 0, FILE_SETUP = 13, RESTORE = 14, DESIGN = 15 };
+/* What a sitting does: nothing, the calls with one of the codes, reads the file, or works on the design. */
+enum { IDLE = 0, FILE_SETUP = CODES + 1, RESTORE, DESIGN };
 
 /* Each in a frame of its own, whose bytes count too. */
 static __attribute__((noinline)) void play(session *t, uint32_t code)
 {
     sentivolus_params p = loud();
+    float taps[SENTIVOLUS_TEETH];
     t->setup.code = code;
     t->setup.table.three_axes = true;
+    t->setup.chord = chord_of(SENTIVOLUS_TEETH, far_offsets);
+    sentivolus_chord_read(t->delay, RING, RING, 0, 0, 0.01f, SENTIVOLUS_TEETH, far_offsets, taps);
     sentivolus_bank_open(&t->setup, &t->bank);
     sentivolus_bank_set(&t->setup, &t->bank, 1, &p);
     sentivolus_bank_start(&t->setup, &t->bank, 1);
@@ -1057,7 +1308,7 @@ static void stacks(void)
 {
     make(&usual, 1);
     design = cube();
-    long drawing = most_used(DESIGN, DESIGN), calls = most_used(1, 12), reading = most_used(FILE_SETUP, RESTORE);
+    long drawing = most_used(DESIGN, DESIGN), calls = most_used(1, CODES), reading = most_used(FILE_SETUP, RESTORE);
     check(calls > 1024 && calls < 12288, "the calls take less than 12 KiB of stack", (int)calls);
     check(drawing > 1024 && drawing < 24576, "a design's table and sections less than 24 KiB", (int)drawing);
     check(reading > 1024 && reading < 65536, "reading a parked file less than 64 KiB", (int)reading);
@@ -1087,6 +1338,11 @@ int main(void)
     heard_z();
     unparkable();
     two_axes_parked();
+    readings();
+    chords_and_comb2();
+    ignored_chords();
+    chord_refusals();
+    chords_unparkable();
     stacks();
     printf("c: %d checks, %d failed\n", checks, failures);
     return failures != 0;

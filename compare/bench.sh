@@ -1,20 +1,21 @@
 #!/usr/bin/env bash
-# bench.sh: the proved library and the Rust's scalar lane (with document 01's stand-ins) in one run; then parking, auditions and the third axis. MILLIS
-# sets the time a cell.
+# bench.sh: the proved library and the Rust's scalar lane (with document 01's stand-ins) in one run; then parking, auditions, the third axis and chord
+# combs. MILLIS sets the time a cell.
 set -eu
 . "$(dirname "$0")/common.sh"
-usage="usage: bench.sh [silence | park | audition | axes] [--before ARCHIVE] [--oracle FOLDER] [--help]
+usage="usage: bench.sh [silence | park | audition | axes | chord] [--before ARCHIVE] [--oracle FOLDER] [--help]
   silence          the table of silence alone
   park             the table of parking and restoring alone
   audition         the table of auditions beside their blocks alone
   axes             the table of PoleZero with two and with three axes alone
+  chord            the table of chord combs beside Comb2 alone
   --before ARCHIVE an earlier libsentivolus.a, from version 200 on, beside this one and the Rust: its table, a block of one frame and the roots alone (needs nm and objcopy)
   --oracle FOLDER  the folder that holds assemble.py (../shared/oracle beside the repository)"
 tables=() oracle=$timed before=
 while [ $# -gt 0 ]; do
     case $1 in
         --help) echo "$usage" && exit 0 ;;
-        silence | park | audition | axes) tables=("$1") ;;
+        silence | park | audition | axes | chord) tables=("$1") ;;
         --before)
             [ -f "${2-}" ] || misused "--before takes an archive"
             before=$2

@@ -5,7 +5,7 @@ set -eu
 usage="usage: scale.sh [--seed N] [--samples N] [--rows N] [--oracle FOLDER] [--help]
   --seed N         the first seed (from the clock where it is not given)
   --samples N      voice-samples to compare (10000000)
-  --rows N         rows that a leaves file of this oracle's has (6039)
+  --rows N         rows that a leaves file of this oracle's has (6351)
   --oracle FOLDER  the folder that holds assemble.py (../shared/oracle-requests beside the repository)"
 options=()
 while [ $# -gt 0 ]; do

@@ -25,11 +25,13 @@ touch "$root/target/bin/impulse" # built from these sources, whatever their time
 tried "$root/run.sh" 2 48000 3
 check "a render" [ "$status $out" = "0 "$'0 3f800000\n1 00000000\n2 00000000' ]
 check "a render says nothing else" [ -z "$err" ]
-for words in "13 48000 3/refused 5" "2 7999 3/refused 1" "2 48000 4097/refused 9" "2 200000 3/large"; do
+for words in "14 48000 3/refused 5" "2 7999 3/refused 1" "2 48000 4097/refused 9" "2 200000 3/large"; do
     # shellcheck disable=SC2086 # three words
     tried "$root/run.sh" ${words%/*}
     check "${words#*/}" [ "$status $out" = "1 ${words#*/}" ]
 done
+tried "$root/run.sh" 13 48000 1
+check "a chord comb" [ "$status $out" = "0 0 3f66e979" ]
 tried "$root/run.sh" 2 48000
 check "a wrong line's status and answer" [ "$status $out" = "2 line" ]
 check "a wrong line's usage" has "$err" "usage: run.sh CODE RATE FRAMES"
@@ -82,7 +84,7 @@ printf '2 48000 1\n' >&"${impulse[1]}"
 answer=
 read -r -t 10 answer <&"${impulse[0]}"
 check "an answer at the newline" [ "$answer" = "0 3f800000" ]
-check "later lines stay" [ "$(printf '2 48000 1\n13 48000 1\n' | { "$root/target/bin/impulse" && "$root/target/bin/impulse"; })" = $'0 3f800000\nrefused 5' ]
+check "later lines stay" [ "$(printf '2 48000 1\n14 48000 1\n' | { "$root/target/bin/impulse" && "$root/target/bin/impulse"; })" = $'0 3f800000\nrefused 5' ]
 check "no newline at the input's end" [ "$(printf '2 48000 1' | "$root/target/bin/impulse")" = "0 3f800000" ]
 
 echo "run: $checks checks, $failed failed"

@@ -1,36 +1,37 @@
 //! ns a voice-sample (voice x channel x frame) of the proved library and of the Rust's scalar lane, in one run, best of several; how fast banks are
-//! parked and restored; what an audition costs beside its block; and what the third axis costs.
+//! parked and restored; what an audition costs beside its block; what the third axis costs; and chord combs beside Comb2.
 //! Built inside the assembled oracle, so that the Rust's private `extended::dispatch` is in reach.
 use super::*;
 use std::time::Instant;
 
 unsafe extern "C" {
     fn sentivolus_block(code: u32, rate: f32, reference: f32, voices: usize, channels: usize, clean: bool,
-        active: u32, three_axes: bool, sections: *const f32, gain: f32, cursor: *mut usize, targets: *const f32, targets_len: usize,
-        records: *mut f32, records_len: usize, delay: *mut f32, delay_len: usize, frames: usize, pitch: *const f32, pitch_len: usize,
-        steered: bool, x: *const f32, x_len: usize, y: *const f32, y_len: usize, audio: *mut f32, audio_len: usize,
-        counts: *mut u32, counts_len: usize, rendered: *mut usize) -> u32;
+        active: u32, three_axes: bool, sections: *const f32, gain: f32, count: u32, offsets: *const f32, cursor: *mut usize,
+        targets: *const f32, targets_len: usize, records: *mut f32, records_len: usize, delay: *mut f32, delay_len: usize,
+        frames: usize, pitch: *const f32, pitch_len: usize, steered: bool, x: *const f32, x_len: usize, y: *const f32, y_len: usize,
+        audio: *mut f32, audio_len: usize, counts: *mut u32, counts_len: usize, rendered: *mut usize) -> u32;
     fn sentivolus_audition(code: u32, rate: f32, reference: f32, voices: usize, channels: usize, clean: bool,
-        active: u32, three_axes: bool, sections: *const f32, gain: f32, cursor: usize, targets: *const f32, targets_len: usize,
-        records: *const f32, records_len: usize, delay: *const f32, delay_len: usize, scratch_cursor: *mut usize,
+        active: u32, three_axes: bool, sections: *const f32, gain: f32, count: u32, offsets: *const f32, cursor: usize,
+        targets: *const f32, targets_len: usize, records: *const f32, records_len: usize, delay: *const f32, delay_len: usize, scratch_cursor: *mut usize,
         scratch_targets: *mut f32, scratch_targets_len: usize, scratch_records: *mut f32, scratch_records_len: usize,
         scratch_delay: *mut f32, scratch_delay_len: usize, frames: usize, pitch: *const f32, pitch_len: usize,
         steered: bool, x: *const f32, x_len: usize, y: *const f32, y_len: usize, audio: *mut f32, audio_len: usize,
         counts: *mut u32, counts_len: usize, rendered: *mut usize) -> u32;
     fn sentivolus_open(code: u32, rate: f32, reference: f32, voices: usize, channels: usize, clean: bool, active: u32, three_axes: bool,
-        sections: *const f32, gain: f32, targets: *mut f32, targets_len: usize, records: *mut f32, records_len: usize,
+        sections: *const f32, gain: f32, count: u32, offsets: *const f32, targets: *mut f32, targets_len: usize, records: *mut f32, records_len: usize,
         delay: *mut f32, delay_len: usize) -> u32;
     fn sentivolus_start(code: u32, rate: f32, reference: f32, voices: usize, channels: usize, clean: bool, active: u32, three_axes: bool,
-        sections: *const f32, gain: f32, targets: *const f32, targets_len: usize, records: *mut f32, records_len: usize,
+        sections: *const f32, gain: f32, count: u32, offsets: *const f32, targets: *const f32, targets_len: usize, records: *mut f32, records_len: usize,
         delay: *mut f32, delay_len: usize, voice: usize) -> u32;
     fn sentivolus_park_len(code: u32, rate: f32, reference: f32, voices: usize, channels: usize, clean: bool, active: u32, three_axes: bool,
-        sections: *const f32, gain: f32) -> usize;
+        sections: *const f32, gain: f32, count: u32, offsets: *const f32) -> usize;
     fn sentivolus_park(code: u32, rate: f32, reference: f32, voices: usize, channels: usize, clean: bool, active: u32, three_axes: bool,
-        sections: *const f32, gain: f32, cursor: usize, targets: *const f32, targets_len: usize, records: *const f32, records_len: usize,
-        delay: *const f32, delay_len: usize, file: *mut u8, file_len: usize) -> u32;
+        sections: *const f32, gain: f32, count: u32, offsets: *const f32, cursor: usize, targets: *const f32, targets_len: usize,
+        records: *const f32, records_len: usize, delay: *const f32, delay_len: usize, file: *mut u8, file_len: usize) -> u32;
     fn sentivolus_restore(file: *const u8, file_len: usize, targets: *mut f32, targets_len: usize, records: *mut f32, records_len: usize,
         delay: *mut f32, delay_len: usize, code: *mut u32, rate: *mut f32, reference: *mut f32, voices: *mut usize, channels: *mut usize,
-        clean: *mut bool, active: *mut u32, three_axes: *mut bool, sections: *mut f32, gain: *mut f32, cursor: *mut usize) -> u32;
+        clean: *mut bool, active: *mut u32, three_axes: *mut bool, sections: *mut f32, gain: *mut f32,
+        count: *mut u32, offsets: *mut f32, cursor: *mut usize) -> u32;
     fn sentivolus_root(x: f32) -> f32;
     fn sentivolus_saturation_gain(x: f32, inv_a: f32) -> f32;
     fn sentivolus_soft_clip(x: f32) -> f32;
@@ -210,16 +211,31 @@ fn at_widths(e: &Engine, w: Widths) -> Engine {
     Engine { t, r, ..e.clone() }
 }
 
+/// The count and the offsets of a chord.
+type Chord = (u32, [f32; 8]);
+
+/// What the Rust has not: whether a table has three axes; the chord of a chord comb, in Comb2's place.
+#[derive(Clone, Copy)]
+struct Form { three_axes: bool, chord: Option<Chord> }
+
+const PLAIN: Form = Form { three_axes: false, chord: None };
+
+impl Form {
+    /// The structure's code, and the chord.
+    fn of(&self, code: u32) -> (u32, Chord) { self.chord.map_or((code, (0, [0.0; 8])), |chord| (13, chord)) }
+}
+
 /// x and y as a block takes them.
 fn steering_of(c: &Case) -> [&[f32]; 2] { c.steering.as_ref().map_or([&[], &[]], |[x, y]| [x, y]) }
 
-/// A block of the proved library's, with two axes or three.
-fn block(e: &mut Engine, c: &Case, three_axes: bool, audio: &mut [f32], counts: &mut [u32]) {
+/// A block of the proved library's.
+fn block(e: &mut Engine, c: &Case, form: Form, audio: &mut [f32], counts: &mut [u32]) {
     let (s, [x, y]) = (e.setup, steering_of(c));
+    let (code, (count, offsets)) = form.of(s.code);
     let mut done = 0usize;
     let refused = unsafe {
-        sentivolus_block(s.code, f(s.rate), f(s.reference), s.voices as usize, s.channels as usize, false,
-            e.table.active as u32, three_axes, c.sections.as_ptr(), e.table.gain, &mut e.cursor, e.t.as_ptr(), e.t.len(),
+        sentivolus_block(code, f(s.rate), f(s.reference), s.voices as usize, s.channels as usize, false,
+            e.table.active as u32, form.three_axes, c.sections.as_ptr(), e.table.gain, count, offsets.as_ptr(), &mut e.cursor, e.t.as_ptr(), e.t.len(),
             e.r.as_mut_ptr(), e.r.len(), e.d.as_mut_ptr(), e.d.len(), c.frames, c.pitch.as_ptr(), c.pitch.len(),
             c.steering.is_some(), x.as_ptr(), x.len(), y.as_ptr(), y.len(), audio.as_mut_ptr(), audio.len(),
             counts.as_mut_ptr(), counts.len(), &mut done)
@@ -227,26 +243,28 @@ fn block(e: &mut Engine, c: &Case, three_axes: bool, audio: &mut [f32], counts: 
     assert_eq!((refused, done), (0, c.frames));
 }
 
-/// The same of an earlier archive. Up to version 200 it took no counts, up to 800 it had two axes alone.
+/// The same of an earlier archive. Up to version 200 it took no counts, up to 800 it had two axes alone, up to 900 no chord.
 #[cfg(before)]
-fn block_before(e: &mut Engine, c: &Case, three_axes: bool, audio: &mut [f32], counts: &mut [u32]) {
-    macro_rules! block_type { ([$($three:ty)?] $($counts:ty),*) => { unsafe extern "C" fn(u32, f32, f32, usize, usize, bool, u32, $($three,)?
-        *const f32, f32, *mut usize, *const f32, usize, *mut f32, usize, *mut f32, usize, usize, *const f32, usize,
+fn block_before(e: &mut Engine, c: &Case, form: Form, audio: &mut [f32], counts: &mut [u32]) {
+    macro_rules! block_type { ([$($three:ty)?] [$($chord:ty),*] $($counts:ty),*) => { unsafe extern "C" fn(u32, f32, f32, usize, usize, bool, u32,
+        $($three,)? *const f32, f32, $($chord,)* *mut usize, *const f32, usize, *mut f32, usize, *mut f32, usize, usize, *const f32, usize,
         bool, *const f32, usize, *const f32, usize, *mut f32, usize, $($counts,)* *mut usize) -> u32 } }
     let (s, [x, y]) = (e.setup, steering_of(c));
+    let (code, (count, offsets)) = form.of(s.code);
     let mut done = 0usize;
     let name = before_sentivolus_block as *const ();
-    macro_rules! refused { ($block:ty, [$($three:expr)?] $($counts:expr),*) => {
-        std::mem::transmute::<_, $block>(name)(s.code, f(s.rate), f(s.reference), s.voices as usize, s.channels as usize, false,
-            e.table.active as u32, $($three,)? c.sections.as_ptr(), e.table.gain, &mut e.cursor, e.t.as_ptr(), e.t.len(),
+    macro_rules! refused { ($block:ty, [$($three:expr)?] [$($chord:expr),*] $($counts:expr),*) => {
+        std::mem::transmute::<_, $block>(name)(code, f(s.rate), f(s.reference), s.voices as usize, s.channels as usize, false,
+            e.table.active as u32, $($three,)? c.sections.as_ptr(), e.table.gain, $($chord,)* &mut e.cursor, e.t.as_ptr(), e.t.len(),
             e.r.as_mut_ptr(), e.r.len(), e.d.as_mut_ptr(), e.d.len(), c.frames, c.pitch.as_ptr(), c.pitch.len(),
             c.steering.is_some(), x.as_ptr(), x.len(), y.as_ptr(), y.len(), audio.as_mut_ptr(), audio.len(), $($counts,)* &mut done)
     } }
     let refused = unsafe {
         match before_sentivolus_version() {
-            ..=200 => refused!(block_type!([]), []),
-            ..=800 => refused!(block_type!([] *mut u32, usize), [] counts.as_mut_ptr(), counts.len()),
-            _ => refused!(block_type!([bool] *mut u32, usize), [three_axes] counts.as_mut_ptr(), counts.len()),
+            ..=200 => refused!(block_type!([] []), [] []),
+            ..=800 => refused!(block_type!([] [] *mut u32, usize), [] [] counts.as_mut_ptr(), counts.len()),
+            ..=900 => refused!(block_type!([bool] [] *mut u32, usize), [form.three_axes] [] counts.as_mut_ptr(), counts.len()),
+            _ => refused!(block_type!([bool] [u32, *const f32] *mut u32, usize), [form.three_axes] [count, offsets.as_ptr()] counts.as_mut_ptr(), counts.len()),
         }
     };
     assert_eq!((refused, done), (0, c.frames));
@@ -259,18 +277,18 @@ fn widths_before() -> Widths {
 
 fn counts_of(e: &Engine) -> Vec<u32> { vec![0; (e.setup.voices * e.setup.channels) as usize] }
 
-/// A block of an archive: engine, case, whether with three axes, audio, counts. With it the archive's widths, and the axes that are timed.
+/// A block of an archive: engine, case, form, audio, counts. With it the archive's widths, and the form that is timed.
 #[derive(Clone, Copy)]
-struct Timed { block: fn(&mut Engine, &Case, bool, &mut [f32], &mut [u32]), widths: Widths, three_axes: bool }
+struct Timed { block: fn(&mut Engine, &Case, Form, &mut [f32], &mut [u32]), widths: Widths, form: Form }
 
-const TWO_AXES: Timed = Timed { block, widths: OURS, three_axes: false };
-const THREE_AXES: Timed = Timed { three_axes: true, ..TWO_AXES };
+const TWO_AXES: Timed = Timed { block, widths: OURS, form: PLAIN };
+const THREE_AXES: Timed = Timed { form: Form { three_axes: true, ..PLAIN }, ..TWO_AXES };
 
 impl Timed {
     /// A block, z's targets changed where it moves.
     fn run(&self, e: &mut Engine, c: &Case, audio: &mut [f32], counts: &mut [u32]) {
         if c.z_moves { e.t.chunks_mut(self.widths.targets).filter_map(|t| t.get_mut(10)).for_each(|z| *z = 1.0 - *z); }
-        (self.block)(e, c, self.three_axes, audio, counts);
+        (self.block)(e, c, self.form, audio, counts);
     }
 }
 
@@ -342,19 +360,19 @@ fn silence(millis: u128) {
 /// Microseconds of open, 16 voices stereo, and of start, at a rate.
 fn opening(rate: f32) -> (f64, f64) {
     let mut e = at_widths(&case(9, rate, 16, 2, 1, false).engine, OURS);
-    let sections = [0f32; 320];
+    let (sections, offsets) = ([0f32; 320], [0f32; 8]);
     let mut best = (f64::MAX, f64::MAX);
     for _ in 0..20 {
         let t = Instant::now();
         let refused = unsafe {
-            sentivolus_open(9, rate, 440.0, 16, 2, false, 0, false, sections.as_ptr(), 1.0, e.t.as_mut_ptr(), e.t.len(), e.r.as_mut_ptr(), e.r.len(),
-                e.d.as_mut_ptr(), e.d.len())
+            sentivolus_open(9, rate, 440.0, 16, 2, false, 0, false, sections.as_ptr(), 1.0, 0, offsets.as_ptr(), e.t.as_mut_ptr(), e.t.len(),
+                e.r.as_mut_ptr(), e.r.len(), e.d.as_mut_ptr(), e.d.len())
         };
         best.0 = best.0.min(t.elapsed().as_nanos() as f64 / 1000.0);
         let t = Instant::now();
         let started = unsafe {
-            sentivolus_start(9, rate, 440.0, 16, 2, false, 0, false, sections.as_ptr(), 1.0, e.t.as_ptr(), e.t.len(), e.r.as_mut_ptr(), e.r.len(),
-                e.d.as_mut_ptr(), e.d.len(), 3)
+            sentivolus_start(9, rate, 440.0, 16, 2, false, 0, false, sections.as_ptr(), 1.0, 0, offsets.as_ptr(), e.t.as_ptr(), e.t.len(),
+                e.r.as_mut_ptr(), e.r.len(), e.d.as_mut_ptr(), e.d.len(), 3)
         };
         best.1 = best.1.min(t.elapsed().as_nanos() as f64 / 1000.0);
         assert_eq!((refused, started), (0, 0));
@@ -364,18 +382,18 @@ fn opening(rate: f32) -> (f64, f64) {
 
 /// The bytes that a bank is parked in.
 fn park_len(e: &Engine, sections: &[f32]) -> usize {
-    let s = e.setup;
+    let (s, offsets) = (e.setup, [0f32; 8]);
     unsafe {
         sentivolus_park_len(s.code, f(s.rate), f(s.reference), s.voices as usize, s.channels as usize, s.clean, e.table.active as u32, false,
-            sections.as_ptr(), e.table.gain)
+            sections.as_ptr(), e.table.gain, 0, offsets.as_ptr())
     }
 }
 
 fn park(e: &Engine, sections: &[f32], file: &mut [u8]) {
-    let s = e.setup;
+    let (s, offsets) = (e.setup, [0f32; 8]);
     let refused = unsafe {
         sentivolus_park(s.code, f(s.rate), f(s.reference), s.voices as usize, s.channels as usize, s.clean, e.table.active as u32, false,
-            sections.as_ptr(), e.table.gain, e.cursor, e.t.as_ptr(), e.t.len(), e.r.as_ptr(), e.r.len(), e.d.as_ptr(), e.d.len(),
+            sections.as_ptr(), e.table.gain, 0, offsets.as_ptr(), e.cursor, e.t.as_ptr(), e.t.len(), e.r.as_ptr(), e.r.len(), e.d.as_ptr(), e.d.len(),
             file.as_mut_ptr(), file.len())
     };
     assert_eq!(refused, 0);
@@ -384,11 +402,11 @@ fn park(e: &Engine, sections: &[f32], file: &mut [u8]) {
 /// Restores the lists and the cursor; the setup that comes with them is left.
 fn restore(e: &mut Engine, file: &[u8]) {
     let (mut code, mut rate, mut reference, mut voices, mut channels, mut clean) = (0, 0.0, 0.0, 0, 0, false);
-    let (mut active, mut three_axes, mut sections, mut gain) = (0, false, [0f32; 320], 0.0);
+    let (mut active, mut three_axes, mut sections, mut gain, mut count, mut offsets) = (0, false, [0f32; 320], 0.0, 0, [0f32; 8]);
     let refused = unsafe {
         sentivolus_restore(file.as_ptr(), file.len(), e.t.as_mut_ptr(), e.t.len(), e.r.as_mut_ptr(), e.r.len(), e.d.as_mut_ptr(), e.d.len(),
             &mut code, &mut rate, &mut reference, &mut voices, &mut channels, &mut clean, &mut active, &mut three_axes, sections.as_mut_ptr(),
-            &mut gain, &mut e.cursor)
+            &mut gain, &mut count, offsets.as_mut_ptr(), &mut e.cursor)
     };
     assert_eq!(refused, 0);
 }
@@ -435,11 +453,11 @@ fn parking(millis: u128) {
 
 /// A block of the proved library's, on a copy in the lists of `scratch`.
 fn audition(e: &Engine, scratch: &mut Engine, c: &Case, audio: &mut [f32], counts: &mut [u32]) {
-    let (s, [x, y]) = (e.setup, steering_of(c));
+    let (s, [x, y], offsets) = (e.setup, steering_of(c), [0f32; 8]);
     let mut done = 0usize;
     let refused = unsafe {
         sentivolus_audition(s.code, f(s.rate), f(s.reference), s.voices as usize, s.channels as usize, false,
-            e.table.active as u32, false, c.sections.as_ptr(), e.table.gain, e.cursor,
+            e.table.active as u32, false, c.sections.as_ptr(), e.table.gain, 0, offsets.as_ptr(), e.cursor,
             e.t.as_ptr(), e.t.len(), e.r.as_ptr(), e.r.len(), e.d.as_ptr(), e.d.len(),
             &mut scratch.cursor, scratch.t.as_mut_ptr(), scratch.t.len(), scratch.r.as_mut_ptr(), scratch.r.len(),
             scratch.d.as_mut_ptr(), scratch.d.len(), c.frames, c.pitch.as_ptr(), c.pitch.len(),
@@ -476,7 +494,7 @@ fn measure_audition(c: &Case, millis: u128) -> [f64; 3] {
             std::hint::black_box(&mut scratch);
         });
         time(1, &mut || audition(&bank, &mut scratch, c, &mut heard, &mut heard_counts));
-        time(0, &mut || block(&mut bank, c, false, &mut audio, &mut counts));
+        time(0, &mut || block(&mut bank, c, PLAIN, &mut audio, &mut counts));
         assert!(heard == audio && heard_counts == counts && scratch.cursor == bank.cursor);
         assert!(scratch.t == bank.t && scratch.r == bank.r && scratch.d == bank.d);
     }
@@ -518,7 +536,7 @@ fn grid(millis: u128) {
 /// An earlier archive, this one and the Rust, taking turns.
 #[cfg(before)]
 fn before(millis: u128) {
-    let each = |c: &Case| measure_each(c, millis, false, [Timed { block: block_before, widths: widths_before(), three_axes: false }, TWO_AXES]);
+    let each = |c: &Case| measure_each(c, millis, false, [Timed { block: block_before, widths: widths_before(), form: PLAIN }, TWO_AXES]);
     println!("| code | pitch | voices x channels / frames: before, after, Rust (after over before) | | | |");
     println!("|---|---|---|---|---|---|");
     println!("| | | 1x1/64 | 1x1/4096 | 16x2/64 | 16x2/4096 |");
@@ -566,6 +584,26 @@ fn axes(millis: u128) {
     }
 }
 
+/// So many teeth: near together, and spread over two octaves.
+fn near_teeth(count: u32) -> Chord { (count, std::array::from_fn(|i| 0.001 * i as f32)) }
+fn far_teeth(count: u32) -> Chord { (count, std::array::from_fn(|i| (2.0 * i as f32 / (count - 1).max(1) as f32).min(2.0))) }
+
+/// Chord combs and Comb2, taking turns, and the Rust's Comb2 in the first row.
+fn chords(millis: u128) {
+    let cases: Vec<Case> = [(1, 1, false), (1, 1, true), (16, 2, false), (16, 2, true)].map(|(v, n, moving)| case(9, 48000.0, v, n, 64, moving)).into();
+    println!("Chord combs, 64 frames a block, rate 48000: ns a voice-sample (over Comb2's of the same run)\n");
+    println!("| structure | 1x1, held pitch | 1x1, moving | 16x2, held | 16x2, moving |");
+    println!("|---|---|---|---|---|");
+    let row = |what: &str, cell: &dyn Fn(&Case) -> String| println!("| {what} |{}", cases.iter().map(|c| format!(" {} |", cell(c))).collect::<String>());
+    row("9 Comb2: ours, the Rust's", &|c| { let (ours, rust) = measure(c, millis); format!("{ours:.1}, {rust:.1}") });
+    let teeth = [1, 2, 4, 8].map(|n| [("near", near_teeth(n)), ("far", far_teeth(n))]);
+    for (what, chord) in teeth.into_iter().flatten().filter(|(what, chord)| chord.0 > 1 || *what == "near") {
+        let timed = Timed { form: Form { chord: Some(chord), ..PLAIN }, ..TWO_AXES };
+        let name = if chord.0 == 1 { "13, one tooth".into() } else { format!("13, {} teeth, {what}", chord.0) };
+        row(&name, &|c| { let ([comb2, chord], _) = measure_each(c, millis, false, [TWO_AXES, timed]); format!("{chord:.1} ({:.2})", chord / comb2) });
+    }
+}
+
 fn growth(millis: u128) {
     println!("\nGrowth, ours, code 9 (Comb2), held pitch, ns a voice-sample:");
     for (what, v, n, frames, rate) in [("1 voice mono, 64 frames", 1, 1, 64, 48000.0), ("4 voices", 4, 1, 64, 48000.0),
@@ -587,6 +625,7 @@ pub fn main() {
         Some("park") => return parking(millis),
         Some("audition") => return auditions(millis),
         Some("axes") => return axes(millis),
+        Some("chord") => return chords(millis),
         _ => (),
     }
     #[cfg(before)]
@@ -609,4 +648,6 @@ fn every(millis: u128) {
     auditions(millis);
     println!();
     axes(millis);
+    println!();
+    chords(millis);
 }

@@ -80,7 +80,13 @@ class Reader(Words):
     """Reads one clause; `module` says what a name means."""
 
     def __init__(self, module, text):
-        super().__init__([("name" if kind == "quoted" else kind, word.strip("«»")) for kind, word in split(TOKEN, text)])
+        words = []
+        for kind, word in split(TOKEN, text):
+            if kind == "field" and words and words[-1][0] == "name" and words[-1][1] in module.aliases:
+                words[-1] = ("name", words[-1][1] + "." + word)  # a name of a file that is called so here
+            else:
+                words.append(("name" if kind == "quoted" else kind, word.strip("«»")))
+        super().__init__(words)
         self.module = module
 
     def skip_past(self, word):
@@ -244,7 +250,7 @@ class Module:
 
     def __init__(self, definitions, path):
         self.definitions, self.path, self.uses, self.clauses, self.values = definitions, path, {}, {}, {}
-        self.cases = set(CASES)
+        self.cases, self.aliases = set(CASES), {}
         crate, file = path.split(".")
         with open(os.path.join(definitions.crates, crate, "specs", file + ".antt"), encoding="utf-8") as text:
             for chunk in chunks(text.read()):
@@ -253,10 +259,13 @@ class Module:
     def take(self, chunk):
         """Sorts one item of the file."""
         use = re.match(r"(?:pub\s+)?use\s+(\S+?)\.\{([^}]*)\}", chunk)
+        alias = re.match(r"use\s+Rattle·(\w+?)(?:·specs)?\.specs\.(\w+)\s+as\s+(\w+)\s*$", chunk)
         infix = re.match(r"infix([lr]?)\s+(\d+)\s+(.*)", chunk)
         signature = re.match(r"(?:abbrev|unfoldable)\s+(?:pub\s+)?(\S+)", chunk)
         if use:
             self.take_use(use[1], [name.strip().strip("«»") for name in use[2].split(",")])
+        elif alias:
+            self.aliases[alias[3]] = "%s.%s" % alias.groups()[:2]
         elif infix:
             OPERATORS.update((word.strip("_"), (int(infix[2]), infix[1] != "r")) for word in infix[3].split())
         elif signature:
@@ -308,6 +317,9 @@ class Module:
             value = self.defined(name)
         elif name in self.uses:
             value = self.definitions.module(self.uses[name]).value(name)
+        elif name.partition(".")[0] in self.aliases:
+            file, _, own = name.partition(".")
+            value = self.definitions.module(self.aliases[file]).value(own)
         elif name in self.cases:
             value = Tree(name)
         else:

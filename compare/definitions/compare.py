@@ -1,6 +1,7 @@
 #!/usr/bin/env python3
 """Compares the definitions of crates/*/specs with the published Rust, operation by operation. Ends with `N equal, M different`."""
 import argparse
+import functools
 import os
 import sys
 
@@ -21,6 +22,8 @@ VOICES = 2  # of the blocks compared
 PEAK = "a.max_(abs(b))"      # a slot's peak (C-15): of the peak before, a, and the sample handed back, b
 GLIDE = "(a - b).fma(c, b)"  # z (C-17) on its way, as x and y: of its target a, z before b, and alpha c
 BETWEEN = "a + c * (b - a)"  # a number of a section with three axes: of the two faces' numbers a and b, and z c
+TOOTH = "1.0 / (a * exp2(b))"  # a tooth's delay (C-18): of the ratio a and the tooth's offset b
+MEAN = "a * (1.0 / b)"       # what the teeth give: of the sum a of their taps in list order, and how many they are b
 
 # ---- the table of names: after a renaming, this part alone changes
 
@@ -96,6 +99,9 @@ class Marks(tuple):
         assert none == 0
         return self
 
+    def __rmul__(self, times):
+        return Marks(times * tuple(self))
+
 
 # definitions compared by name alone: the Rust's side of each is a method of f32 or of Lines, in rust.py
 OPAQUE = {
@@ -111,6 +117,9 @@ CODES = {
     5: Type("DiodeLadder", CLEAN=False), 6: Type("DiodeLadder", CLEAN=True), 7: Type("TransistorLadder", DRIVEN=True),
     8: Type("PoleZero"), 9: Type("Comb2"), 10: Type("Expander", BAND=False), 11: Type("Expander", BAND=True), 12: Type("K35"),
 }
+CHORD = 13  # the chord comb (C-18), which has no Rust behind it
+TEXTS = {**CODES, CHORD: CODES[9]}  # what each kernel is held against: the chord comb's against Comb2's, with its teeth for the two taps
+TEETH = 3  # of the blocks compared
 SKIPPED = (range(8), (), (1, 4, 6), (0, 3, 7), (7,), range(7))  # of each design compared, the points that are bypassed in a face's states
 FACE = 160  # numbers of a table's face
 KINDS = ("HighPass", "LowPass", "Bypass", "AllPass", "BandPass", "Notch", "Bell", "Free")
@@ -137,6 +146,11 @@ def table(active, three):
     nested = [[numbers[20 * s + 4 * v:20 * s + 4 * v + 4] for v in range(5)] for s in range(8)]
     common = {"active": active, "gain": Tree("gain")}
     return {"sections": numbers, "three": three, **common}, {"": "Table", "sections": nested, **common}
+
+
+def chord(count):
+    """A chord of so many teeth."""
+    return {"count": count, "offsets": floats("offset", 8)}
 
 
 def point(kind, mark):
@@ -281,19 +295,22 @@ class Comparison:
             self.same(TARGETS + " at " + form.name, self.definitions.value(TARGETS)(voice), theirs)
 
     def marks(self):
-        """SMOOTH and LINES of each code."""
-        for code, kind in CODES.items():
+        """SMOOTH and LINES of each code; the chord comb's are Comb2's."""
+        for code, kind in TEXTS.items():
             self.same("SMOOTH of %d" % code, self.definitions.value(SMOOTH)(code), self.rust.evaluate("T::SMOOTH", {"T": kind}))
             self.same("LINES of %d" % code, self.definitions.value(LINES)(code), self.rust.evaluate("T::LINES", {"T": kind}))
 
     def kernels(self):
-        """Each code's kernel, PoleZero's at several numbers of active sections and both numbers of axes; a code that is none leaves everything."""
+        """Each code's kernel, PoleZero's at several numbers of active sections and both numbers of axes, the chord comb's at every number of teeth; a
+        code that is none leaves everything."""
         for code in CODES:
             for active in (0, 1, 2, 3, 4, 5, 6, 7, 8, 9, 100) if code == 8 else (3,):
                 for three in self.axes(code):
-                    self.kernel(code, active, three)
-        for code in (0, 13):
-            given, _, _ = self.kernel_given(code, 3, False)
+                    self.kernel(code, active, three, TEETH)
+        for count in range(1, 9):
+            self.kernel(CHORD, 3, False, count)
+        for code in (0, 14):
+            given, _, _ = self.kernel_given(code, 3, False, TEETH)
             self.same("code %d" % code, self.kernel_value(given), [given["x"], given["state"], given["ring"]])
 
     def axes(self, code):
@@ -306,12 +323,25 @@ class Comparison:
         pairs = [(blend(numbers, i, x, y), blend(numbers, FACE + i, x, y)) for i in range(0, FACE, 4)]
         return replaced(left, {a: self.rust.evaluate(BETWEEN, {"a": a, "b": b, "c": z}) for a, b in pairs})
 
-    def kernel_given(self, code, active, three):
+    def with_teeth(self, left, teeth):
+        """What Comb2's text leaves, with the mean of its two taps exchanged for that of a chord's teeth."""
+        def is_mean(tree):
+            whole = tree.parts[0] if tree.name == "mul" else tree
+            return isinstance(whole, Tree) and whole.name == "add" and all(isinstance(p, Tree) and p.name == "ringRead" for p in whole.parts)
+        mean, = [tree for tree in parts_of(left) if tree.name == "mul" and is_mean(tree)]
+        length, cursor, delay, ring = mean.parts[0].parts[0].parts  # of the first tap, whose delay is 1 / ratio
+        offsets = teeth["offsets"][:teeth["count"]]
+        delays = [self.rust.evaluate(TOOTH, {"a": delay.parts[1], "b": offset}) for offset in offsets]
+        taps = [Tree("ringRead", length, cursor, back, ring) for back in delays]
+        total = functools.reduce(lambda a, b: self.rust.evaluate("a + b", {"a": a, "b": b}), taps)
+        return replaced(left, {mean: self.rust.evaluate(MEAN, {"a": total, "b": literal(len(taps))})})
+
+    def kernel_given(self, code, active, three, count):
         """A kernel's arguments by name, the Rust's settings and its lines."""
         ours, theirs = table(active, three)
         settings = record(("resonance", "inv_knee", "character", "x", "y", "z", "ref_over_rate", "reference_ratio"))
         given = {"code": code, "table": ours, **ours, "len": Tree("len"), "cursor": Tree("cursor"), "pitch": Tree("pitch"),
-                 "settings": settings, "state": floats("s", 20), "ring": Tree("ring"), "x": Tree("in")}
+                 "settings": {**settings, "chord": chord(count)}, "state": floats("s", 20), "ring": Tree("ring"), "x": Tree("in")}
         lines = {"": "Lines", "buf": [Tree("ring")], "len": Tree("len"), "cursor": Tree("cursor"), "slot": 0}
         return given, {**settings, "inv_rate": Tree("inv_rate"), "pole_zero": theirs}, lines
 
@@ -320,30 +350,33 @@ class Comparison:
         value = self.definitions.call(KERNEL, given, PARAMETERS)
         return [value[field] for field in KERNEL_FIELDS]
 
-    def kernel(self, code, active, three):
+    def kernel(self, code, active, three, count):
         """One kernel: its sample, its twenty states, its ring."""
-        given, settings, lines = self.kernel_given(code, active, three)
+        given, settings, lines = self.kernel_given(code, active, three, count)
         ours = self.kernel_value(given)
-        theirs = {"T": CODES[code], "lines": lines, "state": list(given["state"]), "x": given["x"], "pitch": given["pitch"], "p": settings}
+        theirs = {"T": TEXTS[code], "lines": lines, "state": list(given["state"]), "x": given["x"], "pitch": given["pitch"], "p": settings}
         out = self.rust.evaluate("T::tick(&mut lines, &mut state, x, pitch, &p)", theirs)
         left = [out, theirs["state"], lines["buf"][0]]
         if three:
             left = self.at_z(left, given["sections"], settings["x"], settings["y"], self.rust.evaluate("unit(a)", {"a": settings["z"]}))
-        what = "kernel %d at %d active, three axes %s" % (code, active, three)
+        if code == CHORD:
+            left = self.with_teeth(left, given["settings"]["chord"])
+        what = "kernel %d at %d active, three axes %s, %d teeth" % (code, active, three, count)
         self.same(what, ours, left)
-        self.judged(what, code, active, self.definitions.call(COUNT, given, PARAMETERS), left)
+        self.judged(what, {8: min(active, 8), 9: 2, CHORD: count}.get(code, 1), self.definitions.call(COUNT, given, PARAMETERS), left)
 
-    def judged(self, what, code, active, count, left):
-        """Document 02, C-11: the ratios judged are those that the Rust caps: once a section, by Comb2 twice, else once."""
+    def judged(self, what, times, count, left):
+        """Document 02, C-11 and C-18: the ratios judged are those that the Rust caps: once a section, by Comb2 twice, by the chord comb once a tooth,
+        else once."""
         marks, limit = count or (), self.definitions.value(LIMIT)
-        self.same("how many ratios are judged by " + what, len(marks), {8: min(active, 8), 9: 2}.get(code, 1))
+        self.same("how many ratios are judged by " + what, len(marks), times)
         ours = {mark.parts[1] if mark.name == "lt" and mark.parts[0] is limit else mark for mark in marks}
         theirs = {tree.parts[0] for tree in parts_of(left) if tree.name == "min" and tree.parts[1] is limit}
         self.same("the ratios judged by " + what, sorted(ours, key=id), sorted(theirs, key=id))
 
     def blocks(self):
         """A block of one frame, of every code, clean or not, steered or not, mono and stereo."""
-        for code in CODES:
+        for code in TEXTS:
             for clean in (False, True):
                 for steered in (False, True):
                     for channels in (1, 2):
@@ -359,8 +392,8 @@ class Comparison:
         run = {"": "Run", "bank": bank, "pitch": floats("pitch", VOICES), "xy": offsets if steered else None,
                "audio": [each["input"] for each in slots], "frames": 1}
         variables = {}
-        self.rust.items["Run", "go"].run(Type("Run", T=CODES[code]), (run,), variables)
-        constants = self.definitions.value(CONSTANTS)(Tree("rate"), Tree("reference"), clean)
+        self.rust.items["Run", "go"].run(Type("Run", T=TEXTS[code]), (run,), variables)
+        constants = self.definitions.value(CONSTANTS)(Tree("rate"), Tree("reference"), clean, chord(TEETH))
         for field, variable in CONSTANT_FIELDS:
             self.same("the block's " + field, constants[field], variables[variable])
         for i, each in enumerate(slots):
@@ -377,9 +410,11 @@ class Comparison:
             if three:
                 x, y = [bank["state"][place][i] for place in LAGGED]
                 left = self.at_z(left, ours["sections"], x, y, self.rust.evaluate("unit(a)", {"a": z}))
+            if code == CHORD:
+                left = self.with_teeth(left, chord(TEETH))
             left[1] = left[1] + [self.rust.evaluate(PEAK, {"a": each["numbers"][30], "b": left[0]}), z]
             self.same("tick of " + what, [tick[field] for field in TICK_FIELDS], left)
-            self.judged("the tick of " + what, code, ours["active"], tick[TICK_COUNT], left)
+            self.judged("the tick of " + what, {8: ours["active"], 9: 2, CHORD: TEETH}.get(code, 1), tick[TICK_COUNT], left)
 
     def points(self):
         """A point's section, of each kind; the default state's frequencies and Qs."""

@@ -16,7 +16,8 @@ FILES = {
         lane/specs/Floats.antt parts/specs/Parts.antt lane/specs/Lane.antt sqrt/specs/Root.antt log2/specs/Log2.antt lines/specs/Lines.antt
         points/specs/Points.antt pole_zero/specs/PoleZero.antt filter/specs/Filter.antt filter/specs/Voice.antt
         extended/specs/Extended.antt stages/specs/Stages.antt sweeps/specs/Sweeps.antt ladders/specs/Ladders.antt
-        expanders/specs/Expanders.antt poles/specs/Poles.antt combs/specs/Combs.antt kernels/specs/Kernels.antt peak/specs/Peak.antt run/specs/Run.antt
+        expanders/specs/Expanders.antt poles/specs/Poles.antt teeth/specs/Teeth.antt combs/specs/Combs.antt kernels/specs/Kernels.antt
+        peak/specs/Peak.antt run/specs/Run.antt
         """,
     "the bank": """
         voices/specs/Calls.antt voices/specs/Feed.antt setups/specs/Setup.antt slots/specs/Engine.antt checks/specs/Setup.antt

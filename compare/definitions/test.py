@@ -33,6 +33,11 @@ SLIPS = (
     ("a NaN z kept", "filter/specs/Voice.antt", r"morphOf \(p \.«morph_z»\)", "unitOrNan (p .«morph_z»)"),
     ("a bypass of the near face alone skipped", "pole_zero/specs/PoleZero.antt", r"&& \(not \(d \.three\).*\)", ""),
     ("a far face of two axes", "pole_zero/specs/PoleZero.antt", r"cond \(design \.three\) (\(patch .*\)) s", r"\1"),
+    ("the first tooth's offset for every tooth", "teeth/specs/Teeth.antt", r"c \.offsets ‼ j", "c .offsets ‼ 0"),
+    ("the first tap summed twice", "teeth/specs/Teeth.antt", r"taps ‼ suc j", "taps ‼ j"),
+    ("the teeth's sum divided by their number", "teeth/specs/Teeth.antt", r"⊗ \(one ⊘ whole n\)", "⊘ whole n"),
+    ("the chord comb judged once a tick", "combs/specs/Combs.antt", r"teethOf \(p \.chord\) \* once", "once"),
+    ("LINES for Comb2 alone", "extended/specs/Extended.antt", r"eqb code 9 \|\| eqb code 13", "eqb code 9"),
 )
 
 

@@ -4,12 +4,11 @@ use crate::numbers::{answers, canonical, refused, runs, sums};
 use crate::parked::{self, Restored};
 use crate::replay::Replayed;
 use crate::words::{quoted, Lines, Words, Wrong};
-use sentivolus::{Setup, Table, FACE};
+use sentivolus::{Chord, Setup, Table, FACE};
 
 /// The requests in force in the files that this replays, by the last one's number: a table has two or three axes and two faces, voices and slots have
-/// their z, and a bank is parked in edition one, with no chord, whose offsets are then these.
-const STAGES: [&str; 1] = ["17"];
-const OFFSETS: &str = "00000000*8";
+/// their z, a setup has its chord, and a bank is parked in edition one.
+const STAGES: [&str; 1] = ["18"];
 
 /// A list of more runs is answered by its sums.
 const MOST_RUNS: usize = 120;
@@ -23,7 +22,8 @@ struct Case {
 
 impl Case {
     fn new() -> Self {
-        let setup = Setup { code: 0, rate: 0.0, reference: 0.0, voices: 0, channels: 0, clean: false, table: Table::default() };
+        let (table, chord) = (Table::default(), Chord::default());
+        let setup = Setup { code: 0, rate: 0.0, reference: 0.0, voices: 0, channels: 0, clean: false, table, chord };
         Case { bank: Restored { setup, cursor: 0, lists: [vec![], vec![], vec![]] }, file: vec![], last: vec![] }
     }
 
@@ -59,10 +59,17 @@ fn listed(letter: &str, long: &str, words: &[u32]) -> String {
 
 /// A restored bank, as `image` and the five lines after it have it.
 fn image(b: &Restored) -> String {
-    let (t, [targets, records, delay]) = (&b.setup.table, &b.lists);
+    let (t, c, [targets, records, delay]) = (&b.setup.table, &b.setup.chord, &b.lists);
     let numbers = |letter: &str, list: &[f32]| listed(letter, &format!("{letter}h"), &answers(list));
-    format!("i {} {} {} {:08x} {} 0\n{}c {OFFSETS}\n{}{}{}", parked::setup_text(&b.setup), b.cursor, t.active, canonical(t.gain),
-        if t.three_axes { 3 } else { 2 }, numbers("n", &t.sections), numbers("t", targets), numbers("r", records), numbers("d", delay))
+    let lists = [("n", &t.sections[..]), ("c", &c.offsets), ("t", targets), ("r", records), ("d", delay)].map(|(letter, list)| numbers(letter, list));
+    format!("i {} {} {} {:08x} {} {}\n{}", parked::setup_text(&b.setup), b.cursor, t.active, canonical(t.gain), if t.three_axes { 3 } else { 2 }, c.count,
+        lists.concat())
+}
+
+/// The rest of a line, so many numbers.
+fn exactly<const N: usize>(mut w: Words) -> Result<[f32; N], Wrong> {
+    let list = w.list()?;
+    list.try_into().map_err(|l: Vec<f32>| w.wrong(&format!("{N} numbers"), &l.len().to_string()))
 }
 
 /// The rest of an `image` line and the five lines after it.
@@ -75,19 +82,16 @@ fn read_image(w: &mut Words, lines: &mut Lines, out: &mut Replayed) -> Result<Re
         channels: w.whole()?,
         clean: w.mark()?,
         table: Table::default(),
+        chord: Chord::default(),
     };
     let cursor = w.whole()?;
     (setup.table.active, setup.table.gain) = (w.u32()?, w.float()?);
     setup.table.three_axes = w.one_of("2 or 3 axes", &["2", "3"])? == "3";
-    w.one_of("no chord", &["0"])?;
+    setup.chord.count = w.u32()?;
     w.end()?;
     let mut line = |letter: &str| out.take(lines, &format!("the image's line {letter}"), letter);
-    let mut w = line("n")?;
-    let sections = w.list()?;
-    setup.table.sections = sections.try_into().map_err(|s: Vec<f32>| w.wrong(&format!("{} numbers", 2 * FACE), &s.len().to_string()))?;
-    let mut w = line("c")?;
-    w.one_of(OFFSETS, &[OFFSETS])?;
-    w.end()?;
+    setup.table.sections = exactly::<{ 2 * FACE }>(line("n")?)?;
+    setup.chord.offsets = exactly(line("c")?)?;
     Ok(Restored { setup, cursor, lists: [line("t")?.list()?, line("r")?.list()?, line("d")?.list()?] })
 }
 
@@ -105,7 +109,7 @@ pub fn replay(text: &str) -> Result<Replayed, Wrong> {
         out.copy(w.line);
         if w.line.is_empty() || w.line.starts_with('#') { continue; }
         match w.name() {
-            "stage" => { w.one_of("stage 17", &STAGES)?; w.end()?; }
+            "stage" => { w.one_of("stage 18", &STAGES)?; w.end()?; }
             "case" => case = Case::new(),
             "image" => case.bank = read_image(&mut w, &mut lines, &mut out)?,
             "file" => case.file = w.bits_list()?.into_iter().flat_map(u32::to_le_bytes).collect(),

@@ -3,12 +3,12 @@
 use crate::numbers::{answers, canonical, number, runs};
 use crate::replay::Replayed;
 use crate::words::{Lines, Words, Wrong};
-use sentivolus::{Design, VoiceParams, FACE};
+use sentivolus::{Chord, Design, VoiceParams, FACE};
 
 /// Reads a leaf's inputs and gives its answer.
 type Leaf = fn(&mut Words) -> Result<String, Wrong>;
 
-const LEAVES: [(&str, Leaf); 22] = [
+const LEAVES: [(&str, Leaf); 23] = [
     ("max", |w| w.floats().map(|[a, b]| text(&[sentivolus::max(a, b)]))),
     ("min", |w| w.floats().map(|[a, b]| text(&[sentivolus::min(a, b)]))),
     ("exp2", |w| w.float().map(|a| text(&[sentivolus::exp2(a)]))),
@@ -31,6 +31,7 @@ const LEAVES: [(&str, Leaf); 22] = [
     ("section", |w| section(w, false)),
     ("section8", |w| section(w, true)),
     ("read", read),
+    ("chord_read", chord_read),
 ];
 
 pub fn names() -> impl Iterator<Item = &'static str> { LEAVES.iter().map(|(name, _)| *name) }
@@ -73,10 +74,21 @@ fn section(w: &mut Words, three_axes: bool) -> Result<String, Wrong> {
 }
 
 /// Cell i of the list that is read holds 37 i mod 1009.
+fn cells(w: &mut Words) -> Result<Vec<f32>, Wrong> { Ok((0..w.length()?).map(|i| (37 * i % 1009) as f32).collect()) }
+
 fn read(w: &mut Words) -> Result<String, Wrong> {
-    let (cells, len, cursor, slot, delay) = (w.length()?, w.whole()?, w.whole()?, w.whole()?, w.float()?);
-    let cells: Vec<f32> = (0..cells).map(|i| (37 * i % 1009) as f32).collect();
+    let (cells, len, cursor, slot, delay) = (cells(w)?, w.whole()?, w.whole()?, w.whole()?, w.float()?);
     Ok(text(&[sentivolus::read(&cells, len, cursor, slot, delay)]))
+}
+
+/// The size of the set of cells, and as many taps as there are offsets.
+fn chord_read(w: &mut Words) -> Result<String, Wrong> {
+    let (cells, len, cursor, slot, ratio) = (cells(w)?, w.whole()?, w.whole()?, w.whole()?, w.float()?);
+    let teeth = w.at_most(8)?;
+    let mut chord = Chord { count: teeth as u32, ..Chord::default() };
+    for offset in &mut chord.offsets[..teeth] { *offset = w.float()?; }
+    let (size, taps) = sentivolus::chord_read(&cells, len, cursor, slot, ratio, &chord);
+    Ok(format!(" {size}{}", text(&taps[..teeth])))
 }
 
 fn row(w: &mut Words) -> Result<String, Wrong> {

@@ -28,7 +28,7 @@ pub fn sums(words: &[u32]) -> String {
     format!(" {s1:08x} {s2:08x}")
 }
 
-/// A refusal's number, 1 to 15.
+/// A refusal's number, 1 to 16.
 pub fn number(r: Refusal) -> u32 { r.number() }
 
 /// What is wrong beside an answer, to be said in it.

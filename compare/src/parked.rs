@@ -2,7 +2,7 @@
 
 use crate::numbers::{answers, canonical, said};
 use crate::words::{decimal, Words, Wrong};
-use sentivolus::{Refusal, Setup};
+use sentivolus::{Chord, Refusal, Setup};
 
 const BLOCK: usize = 512;
 
@@ -50,7 +50,7 @@ pub fn restore(file: &[u8], lengths: [usize; 3]) -> (Result<Restored, Refusal>, 
 fn read_alike(alone: Result<(Setup, usize), Refusal>, restored: Result<(Setup, usize), Refusal>) -> bool {
     let words = |(s, cursor): (Setup, usize)| {
         let t = s.table;
-        (setup_text(&s), cursor, t.active, t.three_axes, canonical(t.gain), answers(&t.sections))
+        (setup_text(&s), chord_text(&s.chord), cursor, t.active, t.three_axes, canonical(t.gain), answers(&t.sections))
     };
     match (alone, restored) {
         (Ok(_), Err(refusal)) => refusal == Refusal::Store,
@@ -63,6 +63,9 @@ pub fn setup_text(s: &Setup) -> String {
     let (rate, reference, clean) = (canonical(s.rate), canonical(s.reference), u8::from(s.clean));
     format!("{} {rate:08x} {reference:08x} {} {} {clean}", s.code, s.voices, s.channels)
 }
+
+/// `chord`, its count and its eight offsets.
+pub fn chord_text(c: &Chord) -> String { format!("chord {}{}", c.count, answers(&c.offsets).iter().map(|o| format!(" {o:08x}")).collect::<String>()) }
 
 pub fn words(bytes: &[u8]) -> Vec<u32> { bytes.chunks_exact(4).map(|w| u32::from_le_bytes([w[0], w[1], w[2], w[3]])).collect() }
 

@@ -13,7 +13,7 @@ STAGE in its environment, until enough is compared
   --seed N       the first file's seed (from the clock where it is not given); the others follow from it
   --samples N    voice-samples to compare (10000000)
   --scenarios N  scenarios to ask for in a file (396); the last has to end with a dump
-  --rows N       rows that a leaves file has (6039)
+  --rows N       rows that a leaves file has (6351)
   --cases N      cases to ask for in a file on parked files (120)
 Exit status 1 where an answer differs, or the oracle fails or stops early.";
 

@@ -4,7 +4,7 @@ use crate::numbers::{answers, canonical, refused, runs, said, sums};
 use crate::parked;
 use crate::replay::Replayed;
 use crate::words::{quoted, Lines, Words, Wrong};
-use sentivolus::{Refusal, Scratch, Setup, Table, VoiceParams, FACE, TARGETS};
+use sentivolus::{Chord, Refusal, Scratch, Setup, Table, VoiceParams, FACE, TARGETS};
 
 /// What each of a block's counts holds before, and each number of an audition's scratch.
 const BEFORE: u32 = 7;
@@ -44,7 +44,8 @@ struct Asked {
 
 impl Bank {
     fn new() -> Self {
-        let setup = Setup { code: 0, rate: 0.0, reference: 0.0, voices: 0, channels: 0, clean: false, table: Table::default() };
+        let (table, chord) = (Table::default(), Chord::default());
+        let setup = Setup { code: 0, rate: 0.0, reference: 0.0, voices: 0, channels: 0, clean: false, table, chord };
         Bank { setup, targets: vec![], records: vec![], delay: vec![], cursor: 0, lend: None, counts: None, scratch: None, file: vec![] }
     }
 
@@ -57,6 +58,7 @@ impl Bank {
             channels: w.whole()?,
             clean: w.mark()?,
             table: self.setup.table,
+            chord: self.setup.chord,
         };
         Ok(())
     }
@@ -178,8 +180,8 @@ impl Bank {
             Ok(bank) => {
                 (self.setup, self.cursor) = (bank.setup, bank.cursor);
                 [self.targets, self.records, self.delay] = bank.lists;
-                let t = &self.setup.table;
-                format!("= ok {}{wrong}\ns {} {} {:08x}\n", self.cursor, parked::setup_text(&self.setup), t.active, canonical(t.gain))
+                let (t, chord) = (&self.setup.table, parked::chord_text(&self.setup.chord));
+                format!("= ok {}{wrong}\ns {} {} {:08x} {chord}\n", self.cursor, parked::setup_text(&self.setup), t.active, canonical(t.gain))
             }
         })
     }
@@ -205,6 +207,11 @@ impl Bank {
         part.copy_from_slice(&numbers);
         self.setup.table = t;
         Ok(())
+    }
+
+    fn chord(&mut self, w: &mut Words) -> Result<(), Wrong> {
+        self.setup.chord = Chord { count: w.u32()?, offsets: w.floats()? };
+        w.end()
     }
 }
 
@@ -255,6 +262,7 @@ pub fn replay(text: &str) -> Result<Replayed, Wrong> {
         match w.name() {
             "scenario" => bank = Bank::new(),
             name @ ("table" | "table3") => bank.table(&mut w, name == "table3")?,
+            "chord" => bank.chord(&mut w)?,
             "poke" => bank.poke(&mut w)?,
             "setup" => { bank.take_setup(&mut w)?; w.end()?; }
             "lend" => { bank.lend = Some(lengths(&mut w)?); w.end()?; }

@@ -11,7 +11,8 @@ const PARKED: &str = "open 2 45fa0000 43dc0000 1 1 0 11 32 1024\n= ok 0\npark 66
 
 /// A file restored, and what it answers.
 const RESTORE: &str = "restore 11 32 1024\n";
-const RESTORED: &str = "= ok 0\ns 2 45fa0000 43dc0000 1 1 0 0 3f800000\n";
+const RESTORED: &str =
+    "= ok 0\ns 2 45fa0000 43dc0000 1 1 0 0 3f800000 chord 0 00000000 00000000 00000000 00000000 00000000 00000000 00000000 00000000\n";
 
 /// A frame that is over the pitch ceiling there, and what it answers.
 const BLOCK: &str = "block 1 0\np 42700000\nx\ny\na 00000000\n";
@@ -25,7 +26,7 @@ const COPY: &str = "t 3dcccccd 00000000 3f800000 3eaaaaab 00000000 3f800000*2 00
     r 3dcccccd 00000000 3f800000 3eaaaaab 00000000 3f800000*2 00000000*23 3f66e979 00000000\nd 3f800000 00000000*1023\n";
 
 /// Lines after a scenario's first line, and what is said about them.
-const SCENARIOS: [(&str, &str); 62] = [
+const SCENARIOS: [(&str, &str); 67] = [
     ("nonsense", "line 2: expected a call, a preparation, an answer or a comment, found \"nonsense\""),
     ("a 3f800000", "line 2: expected a call, a preparation, an answer or a comment, found \"a\""),
     (" dump", "line 2: expected a call, a preparation, an answer or a comment, found \"\""),
@@ -60,6 +61,11 @@ const SCENARIOS: [(&str, &str); 62] = [
     ("table 0 3f800000 00000000*161", "line 2: expected at most 160 numbers, found 161"),
     ("table3 0 3f800000 00000000*321", "line 2: expected at most 320 numbers, found 321"),
     ("table8 0 3f800000", "line 2: expected a call, a preparation, an answer or a comment, found \"table8\""),
+    ("chord", "line 2: expected a whole number that fits 32 bits, found the line's end"),
+    ("chord 4294967296", "line 2: expected a whole number that fits 32 bits, found \"4294967296\""),
+    ("chord 2 00000000 3f800000", "line 2: expected eight lower-case hexadecimal digits, found the line's end"),
+    ("chord 1 00000000*8", "line 2: expected eight lower-case hexadecimal digits, found \"00000000*8\""),
+    ("chord 1 00000000 00000000 00000000 00000000 00000000 00000000 00000000 00000000 0", "line 2: expected the line's end, found \"0\""),
     ("poke x 0 3f800000", "line 2: expected t, r or d, found \"x\""),
     ("poke t 0 3f800000", "line 2: expected a list of at least 1 numbers, found one of 0"),
     ("poke t 18446744073709551615 3f800000*2", "line 2: expected a list of at least 18446744073709551615 numbers, found one of 0"),
@@ -104,7 +110,7 @@ const EDITS: [(&str, &str); 9] = [
     ("cut 6655\nmend 12", "line 7: expected one of the file's 12 blocks, from 0, found \"12\""),
 ];
 
-const LEAVES: [(&str, &str); 13] = [
+const LEAVES: [(&str, &str); 17] = [
     ("sinh 3f800000 = 3f800000", "line 2: expected a leaf's name, found \"sinh\""),
     ("exp2 = 3f800000", "line 2: expected eight lower-case hexadecimal digits, found \"=\""),
     ("exp2 3f8 = 3f800000", "line 2: expected eight lower-case hexadecimal digits, found \"3f8\""),
@@ -118,20 +124,25 @@ const LEAVES: [(&str, &str); 13] = [
     ("section8 0 3f800000 3f800000 3f800000 00000000 8", "line 2: expected a whole number, at most 7, found \"8\""),
     ("table8 00000000", "line 2: expected a whole number, at most 7, found the line's end"),
     ("read 16777217 1024 0 0 3f800000 =", "line 2: expected a whole number, at most 16777216, found \"16777217\""),
+    ("chord_read 1024 1024 0 0 3f000000 =", "line 2: expected a whole number, at most 8, found \"=\""),
+    ("chord_read 1024 1024 0 0 3f000000 9 =", "line 2: expected a whole number, at most 8, found \"9\""),
+    ("chord_read 1024 1024 0 0 3f000000 2 00000000 = 4", "line 2: expected eight lower-case hexadecimal digits, found \"=\""),
+    ("chord_read 1024 1024 0 0 3f000000 1 00000000 3f800000 = 4", "line 2: expected = and the answer, found \"3f800000\""),
 ];
 
 const IMAGE: &str = "image 9 45fa0000 43dc0000 1 1 0 0 0 3f800000 2 0";
 const LISTS: &str = "n 00000000*320\nc 00000000*8\nt 3f000000*10 00000000\nr 00000000*32\nd 00000000*1024\n";
 
 /// Lines of a case on parked files, after its first line.
-const CASES: [(&str, &str); 20] = [
+const CASES: [(&str, &str); 21] = [
     ("nonsense", "line 2: expected a line of a case, an answer or a comment, found \"nonsense\""),
-    ("stage 16", "line 2: expected stage 17, found \"16\""),
-    ("stage 18", "line 2: expected stage 17, found \"18\""),
+    ("stage 17", "line 2: expected stage 18, found \"17\""),
+    ("stage 19", "line 2: expected stage 18, found \"19\""),
     ("image 4294967296", "line 2: expected a whole number that fits 32 bits, found \"4294967296\""),
     ("image 9 45fa0000 43dc0000 1 1 0 0 0 3f800000", "line 2: expected 2 or 3 axes, found the line's end"),
     ("image 9 45fa0000 43dc0000 1 1 0 0 0 3f800000 4 0", "line 2: expected 2 or 3 axes, found \"4\""),
-    ("image 9 45fa0000 43dc0000 1 1 0 0 0 3f800000 2 1", "line 2: expected no chord, found \"1\""),
+    ("image 9 45fa0000 43dc0000 1 1 0 0 0 3f800000 2", "line 2: expected a whole number that fits 32 bits, found the line's end"),
+    ("image 9 45fa0000 43dc0000 1 1 0 0 0 3f800000 2 0 0", "line 2: expected the line's end, found \"0\""),
     ("image 9 45fa0000 43dc0000 1 1 2 0 0 3f800000 2 0", "line 2: expected 0 or 1, found \"2\""),
     (IMAGE, "line 3: expected the image's line n, found the file's end"),
     ("bytes", "line 2: expected a whole number below 2^64, found the line's end"),
@@ -151,7 +162,7 @@ const CASES: [(&str, &str); 20] = [
 const IMAGES: [(&str, &str); 5] = [
     ("n 00000000*160", "line 3: expected 320 numbers, found 160"),
     ("t 00000000", "line 3: expected the image's line n, found \"t\""),
-    ("n 00000000*320\nc 00000000*7 3f800000", "line 4: expected 00000000*8, found \"00000000*7\""),
+    ("n 00000000*320\nc 00000000*7", "line 4: expected 8 numbers, found 7"),
     ("n 00000000*320\nc 00000000*8\nt 0", "line 5: expected eight lower-case hexadecimal digits, found \"0\""),
     ("n 00000000*320\nc 00000000*8\nt\nr\npark 1 0", "line 7: expected the image's line d, found \"park\""),
 ];
@@ -179,11 +190,12 @@ fn malformed_lines_are_named() {
 #[test]
 fn no_damage_ends_a_run() {
     let table = "table 1 3f800000 3f000000*20\ntable3 1 3f800000 3f000000*180\npoke r 30 3f800000\n";
-    let file = format!("{OPEN}{table}lend 10 32 1024\nset 0{}\ncounts 1\n{BLOCK}dump\n", " 3f800000".repeat(10));
+    let chord = format!("chord 2{}\n", " 3f800000".repeat(8));
+    let file = format!("{OPEN}{table}{chord}lend 10 32 1024\nset 0{}\ncounts 1\n{BLOCK}dump\n", " 3f800000".repeat(10));
     undamaged("run", &file);
     undamaged("run", &format!("{OPEN}lend 11 32 1024\ncounts 1\nscratch 11 32 1024\n{AUDITION}"));
     undamaged("run", &format!("{OPEN}park 6656\nswap 0 12\ntwice 3\ndrop 3\nbyte 6655 7\nword 12 127 00000000\nmend 12\n{RESTORE}cut 512\n"));
-    undamaged("file", &format!("stage 17\ncase 0\n{IMAGE}\n{LISTS}park 1 6656\ntake\nbytes 6144\n{RESTORE}file 00000000*128\n"));
+    undamaged("file", &format!("stage 18\ncase 0\n{IMAGE}\n{LISTS}park 1 6656\ntake\nbytes 6144\n{RESTORE}file 00000000*128\n"));
 }
 
 fn undamaged(kind: &str, file: &str) {
@@ -252,6 +264,29 @@ fn an_audition_leaves_the_bank() {
     assert_eq!((e.status, e.out, e.err.as_str()), (Some(0), text, ""));
 }
 
+/// A `chord` line is for the setup from here on, until another or the scenario's end; structures but the chord comb ignore it.
+#[test]
+fn chords_are_the_setup_s() {
+    let chord = |count: u32, second: &str| format!("chord {count} 00000000 {second}{}\n", " 7fc00000".repeat(6));
+    let open = COMB.replace("open 9", "open 13").replace("= ok 0\n", "");
+    let block = AUDITION.replace("audition", "block");
+    for (lines, answer) in [
+        (open.clone(), "= refused 16\n"),
+        (format!("{}{open}", chord(2, "3f800000")), "= ok 1 1\no 3f66e979\nc 2\n"),
+        (format!("{}{open}", chord(1, "7fc00000")), "= ok 1 1\no 3f66e979\nc 1\n"),
+        (format!("{}{open}", chord(3, "3f800000")), "= refused 16\n"),
+        (format!("{open}{}setup 13 45fa0000 43dc0000 1 1 0\nlend 11 32 1023\n", chord(2, "40000001")), "= refused 16\n"),
+        (format!("{open}{}setup 13 45fa0000 43dc0000 1 1 0\nlend 11 32 1023\n", chord(2, "40000000")), "= refused 6\n"),
+        (format!("{}scenario b\n{open}", chord(2, "3f800000")), "= refused 16\n"),
+        (format!("{}setup 14 45fa0000 43dc0000 1 1 0\n", chord(9, "7fc00000")), "= refused 5\n"),
+        (format!("{}{COMB}", chord(9, "7fc00000")), HEARD),
+    ] {
+        let e = compare(&["run"], format!("{lines}{block}").as_bytes());
+        assert_eq!((e.status, e.err.as_str()), (Some(0), ""), "{lines}");
+        assert!(e.out.ends_with(&format!("{block}{answer}")), "{lines}{}", e.out);
+    }
+}
+
 /// Without these lines a setup whose slots have no number of 64 bits is refused as any other.
 #[test]
 fn counts_of_wrong_setups() {
@@ -267,6 +302,7 @@ fn counts_of_wrong_setups() {
 #[test]
 fn files_are_edited() {
     let refused = |n: u32| format!("= refused {n}\n");
+    let chord = |count: &str, offset: &str, rest: &str| format!("chord {count}{}\n{rest}", format!(" {offset}").repeat(8));
     for (lines, answer) in [
         ("", RESTORED.to_string()),
         ("swap 0 12\nswap 3 3\nswap 1 5\n", RESTORED.to_string()),
@@ -294,6 +330,9 @@ fn files_are_edited() {
         ("restore 11 32 1025\n= refused 6\n", RESTORED.to_string()),
         ("table3 0 3f800000\npark 6656\n= refused 15\npark 6655\n= refused 6\n", RESTORED.to_string()),
         ("poke t 10 80000000\npark 6656\n= refused 15\n", RESTORED.to_string()),
+        (&chord("3", "7fc00000", "park 6656\n= ok\nh 00000680 35a9d4a8\n"), RESTORED.to_string()),
+        (&chord("1", "80000000", "setup 13 45fa0000 43dc0000 1 1 0\npark 6656\n= refused 15\npark 6655\n= refused 6\n"), RESTORED.to_string()),
+        (&chord("9", "00000000", "setup 13 45fa0000 43dc0000 1 1 0\npark 6655\n= refused 16\n"), RESTORED.to_string()),
         ("poke r 31 00000001\npark 6656\n= refused 15\n", RESTORED.to_string()),
         ("scenario b\n", refused(13)),
     ] {
@@ -308,7 +347,8 @@ fn files_are_edited() {
 fn a_restored_bank_goes_on() {
     let dump = "dump\nt 3dcccccd 00000000 3f800000 3eaaaaab 00000000 3f800000*2 00000000*4\nr 3dcccccd 00000000 3f800000 3eaaaaab 00000000 3f800000*2 \
         00000000*25\nd 00000000*1024\n";
-    let spoilt = "setup 5 45fa0000 42c80000 1 1 1\ntable3 8 00000000\ncursor 9\npoke t 0 3f800000*11\npoke r 0 3f800000*32\npoke d 0 3f800000*1024\n";
+    let lists = "cursor 9\npoke t 0 3f800000*11\npoke r 0 3f800000*32\npoke d 0 3f800000*1024\n";
+    let spoilt = format!("setup 5 45fa0000 42c80000 1 1 1\ntable3 8 00000000\nchord 2{}\n{lists}", " 3f800000".repeat(8));
     let again = "park 6656\n= ok\nh 00000680 35a9d4a8\n";
     let text = format!("{PARKED}{spoilt}{RESTORE}{RESTORED}{dump}{again}lend 10 32 1024\n{RESTORE}{RESTORED}start 0\n= refused 6\nstart 0\n= ok 0\n");
     let e = compare(&["run"], text.as_bytes());
@@ -365,7 +405,9 @@ fn differences_are_shown() {
         let line = before.lines().count() + 1;
         assert!(e.status == Some(1) && e.err.starts_with(&format!("FILE: differs at line {line}\nfile: {to}")), "{}", e.err);
     }
-    for (file, ours) in [("exp2 00000000 = 3f800001", "exp2 00000000 = 3f800000"), ("over 428a0000 3f000000 = 0", "over 428a0000 3f000000 = 1")] {
+    let teeth = "chord_read 1024 1024 0 0 3e800000 2 00000000 3dcccccd =";
+    for (file, ours) in [("exp2 00000000 = 3f800001", "exp2 00000000 = 3f800000"), ("over 428a0000 3f000000 = 0", "over 428a0000 3f000000 = 1"),
+        (&format!("{teeth} 8"), &format!("{teeth} 5 43cb8000 43d074a1"))] {
         let e = check("leaf_difference", "leaf", &format!("{file}\n"));
         assert_eq!((e.status, e.err), (Some(1), format!("FILE: differs at line 1\nfile: {file}\nours: {ours}\n")));
     }
@@ -386,7 +428,7 @@ fn long_lines_are_cut() {
 #[test]
 fn files_without_an_answer_do_not_pass() {
     for (kind, text) in [("run", ""), ("run", "# nothing\n"), ("run", "scenario a\ncursor 5\n"), ("leaf", ""), ("leaf", "# nothing\n\n"),
-        ("file", ""), ("file", "# nothing\nstage 17\n\ncase 0\nfile 00000000\n")] {
+        ("file", ""), ("file", "# nothing\nstage 18\n\ncase 0\nfile 00000000\n")] {
         let e = check("no_answer", kind, text);
         assert_eq!((e.status, e.out.as_str(), e.err.as_str()), (Some(1), "", "FILE: holds no answer, so nothing is compared\n"), "{text:?}");
     }
@@ -395,7 +437,7 @@ fn files_without_an_answer_do_not_pass() {
 #[test]
 fn a_malformed_file_is_no_difference() {
     malformed(&check("malformed", "run", "scenario a\nopen 4294967298\n"), "line 2: expected a whole number that fits 32 bits, found \"4294967298\"");
-    malformed(&check("malformed", "file", "stage 17\ncase 0\npark 1\n"), "line 3: expected a whole number, at most 16777216, found the line's end");
+    malformed(&check("malformed", "file", "stage 18\ncase 0\npark 1\n"), "line 3: expected a whole number, at most 16777216, found the line's end");
     assert_eq!(compare(&["check", "run", "/nowhere/file"], b"").status, Some(2));
 }
 

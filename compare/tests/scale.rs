@@ -19,7 +19,7 @@ fn cases() -> usize { parked().lines().filter(|l| l.starts_with("case ")).count(
 fn script_of(test: &str, [scenarios, leaves, parked]: [&str; 3], ending: &str, run: &str) -> String {
     let answers: String = [("gen", scenarios), ("leafgen", leaves), ("filesgen", parked)].iter()
         .map(|(name, text)| format!("{name}) cat '{}'; {ending} ;;\n", written(test, name, text).display())).collect();
-    let path = written(test, "oracle", &format!("#!/bin/sh\n[ \"$STAGE\" = 17 ] || exit 3\ncase $1 in\n{answers}run) {run} ;;\nesac\n"));
+    let path = written(test, "oracle", &format!("#!/bin/sh\n[ \"$STAGE\" = 18 ] || exit 3\ncase $1 in\n{answers}run) {run} ;;\nesac\n"));
     std::fs::set_permissions(&path, std::fs::Permissions::from_mode(0o755)).expect("the script is a program");
     path.display().to_string()
 }
@@ -96,7 +96,7 @@ fn scenarios_cut_short_fail() {
 fn leaves_cut_short_fail() {
     let whole = leaves();
     fails_with("leaves_cut_in_a_line", &scenarios(), before_last(&whole, " ="), "the last line has no newline");
-    fails_with("leaves_cut_after_a_line", &scenarios(), before_last(&whole, "\nread "), &format!("{} rows instead of {}", rows() - 1, rows()));
+    fails_with("leaves_cut_after_a_line", &scenarios(), before_last(&whole, "\nchord_read "), &format!("{} rows instead of {}", rows() - 1, rows()));
     fails_with("leaves_missing", &scenarios(), "", "the last line has no newline");
     let without_tan: String = whole.lines().map(|l| format!("{}\n", if l.starts_with("tan ") { "exp2 00000000 = 3f800000" } else { l })).collect();
     fails_with("leaves_without_tan", &scenarios(), &without_tan, "no row of tan");
@@ -111,7 +111,7 @@ fn parked_files_cut_short_fail() {
     fails_with("parked_cut_after_a_question", before_last(&whole, "\n= "), "instead of an answer");
     fails_with("parked_missing", "", "the last line has no newline");
     fails_with("parked_changed", &changed(&whole, "\n= refused 1"), "the parked files differ at line ");
-    fails_with("parked_malformed", &whole.replacen("stage 17", "stage 16", 1), "the parked files cannot be read: line 2: ");
+    fails_with("parked_malformed", &whole.replacen("stage 18", "stage 17", 1), "the parked files cannot be read: line 2: ");
 }
 
 #[test]

@@ -6,7 +6,7 @@
 
 use crate::floats::ieee;
 use crate::refusal::answer;
-use crate::{ffi, ring_len, Refusal, Table};
+use crate::{ffi, ring_len, Chord, Refusal, Table};
 
 /// Numbers a voice in targets.
 pub const TARGETS: usize = 11;
@@ -52,12 +52,14 @@ pub enum Structure {
     ExpanderBandPass = 11,
     /// Sallen-Key with a saturating feedback; character goes from low-pass to high-pass.
     K35 = 12,
+    /// A feedback comb with up to eight taps, the teeth of the setup's [`Chord`]; character does nothing.
+    ChordComb = 13,
 }
 
 /// What a bank is opened with; every later call is handed it again.
 #[derive(Clone, Copy, Debug, PartialEq)]
 pub struct Setup {
-    /// A [`Structure`]'s number, 1 to 12.
+    /// A [`Structure`]'s number, 1 to 13.
     pub code: u32,
     /// Samples a second, 8,000 to 384,000.
     pub rate: f32,
@@ -71,15 +73,19 @@ pub struct Setup {
     pub clean: bool,
     /// Read by [`Structure::PoleZero`] alone.
     pub table: Table,
+    /// Read by [`Structure::ChordComb`] alone.
+    pub chord: Chord,
 }
 
 impl Setup {
-    /// A setup with reference 440, no clean drive and a pole-zero table of two axes that passes its input.
+    /// A setup with reference 440, no clean drive, a pole-zero table of two axes that passes its input, and no chord: a [`Structure::ChordComb`] wants one
+    /// before it is opened.
     pub fn new(structure: Structure, rate: f32, voices: usize, channels: usize) -> Self {
-        Setup { code: structure as u32, rate, reference: 440.0, voices, channels, clean: false, table: Table::default() }
+        let (table, chord) = (Table::default(), Chord::default());
+        Setup { code: structure as u32, rate, reference: 440.0, voices, channels, clean: false, table, chord }
     }
 
-    /// The refusal that every call meets with this setup, one of the first five, if it meets one.
+    /// The refusal that every call meets with this setup, one of the first five or [`Refusal::Chord`], if it meets one.
     pub fn refusal(&self) -> Option<Refusal> {
         // Of empty lists `Store` is the answer once the setup is right.
         open(self, &mut [], &mut [], &mut []).err().filter(|r| *r != Refusal::Store)
@@ -175,7 +181,7 @@ macro_rules! call {
     ($name:ident, $s:expr $(, $rest:expr)*) => {
         ieee(|| unsafe {
             ffi::$name($s.code, $s.rate, $s.reference, $s.voices, $s.channels, $s.clean,
-                $s.table.active, $s.table.three_axes, &$s.table.sections, $s.table.gain $(, $rest)*)
+                $s.table.active, $s.table.three_axes, &$s.table.sections, $s.table.gain, $s.chord.count, &$s.chord.offsets $(, $rest)*)
         })
     };
 }
@@ -207,8 +213,8 @@ pub fn start(s: &Setup, cursor: usize, targets: &[f32], records: &mut [f32], del
 ///
 /// To `counts`, one number a slot, it writes how often in this block a cutoff was over the pitch ceiling, the cap of [`ratio_of`](crate::ratio_of), before
 /// it was held there; an equal one is not over, nor is a NaN. A frame counts 0 or 1; with [`Structure::Comb2`] 0 or 2, its two reads; with
-/// [`Structure::PoleZero`] each running section that was over, 0 to 8. With [`Structure::DjSweep`] the cutoff is the one that the sweep comes to, not the
-/// pitch handed in.
+/// [`Structure::ChordComb`] 0 or the number of its teeth; with [`Structure::PoleZero`] each running section that was over, 0 to 8. With
+/// [`Structure::DjSweep`] the cutoff is the one that the sweep comes to, not the pitch handed in.
 #[allow(clippy::too_many_arguments)]
 pub fn block(s: &Setup, cursor: usize, targets: &[f32], records: &mut [f32], delay: &mut [f32], b: Block<'_>,
     audio: &mut [f32], counts: &mut [u32]) -> Result<(usize, usize), Refusal> {

@@ -2,7 +2,7 @@
 
 use crate::ffi;
 use crate::floats::ieee;
-use crate::{VoiceParams, TARGETS};
+use crate::{Chord, VoiceParams, TARGETS};
 
 /// The greater: of a NaN and a number the number; -0 is below +0, whichever comes first.
 pub fn max(a: f32, b: f32) -> f32 {
@@ -92,6 +92,26 @@ pub fn gain(pitch: f32, reference_over_rate: f32) -> f32 {
 pub fn read(buf: &[f32], len: usize, cursor: usize, slot: usize, delay: f32) -> f32 {
     // SAFETY: `buf` and its length are of one slice.
     ieee(|| unsafe { ffi::sentivolus_read(buf.as_ptr(), buf.len(), len, cursor, slot, delay) })
+}
+
+/// The teeth of a chord read together, each cell that they need once: the size of the set of those cells, and the taps. Tap i is what [`read`] gives at
+/// delay 1 / (ratio × exp2(offset i)), those past the last tooth are 0; `ratio` is in cycles a sample and taken as it is. Where [`read`] gives 0 for want
+/// of a ring, size and taps are 0. Nothing is refused: a count above 8 reads 8, one of 0 none.
+///
+/// ```
+/// use sentivolus::{chord_read, exp2, read, Chord};
+/// let ring: Vec<f32> = (0..1024).map(|i| i as f32).collect();
+/// let (size, taps) = chord_read(&ring, 1024, 0, 0, 0.01, &Chord::new(&[0.0, 0.01, 1.0]));
+/// assert_eq!(taps[2], read(&ring, 1024, 0, 0, 1.0 / (0.01 * exp2(1.0))));
+/// assert_eq!(size, 9); // of the four cells of each the first two teeth share three
+/// ```
+pub fn chord_read(buf: &[f32], len: usize, cursor: usize, slot: usize, ratio: f32, chord: &Chord) -> (usize, [f32; 8]) {
+    let mut taps = [0.0; 8];
+    // SAFETY: `buf` and its length are of one slice; `taps` has the eight numbers that are written.
+    let size = ieee(|| unsafe {
+        ffi::sentivolus_chord_read(buf.as_ptr(), buf.len(), len, cursor, slot, ratio, chord.count, &chord.offsets, &mut taps)
+    });
+    (size, taps)
 }
 
 /// One state-variable stage with gain `g` and damping `k`: band, low, and the states `ic1` and `ic2` after it.

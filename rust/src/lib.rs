@@ -25,6 +25,7 @@ compile_error!("the archive is for x86-64");
 
 mod bank;
 mod calls;
+mod chord;
 mod design;
 mod ffi;
 mod floats;
@@ -35,8 +36,9 @@ mod refusal;
 pub use bank::Bank;
 pub use calls::{audition, audition_marked, block, block_marked, open, set, start, version};
 pub use calls::{Block, Scratch, Setup, Structure, VoiceParams, PEAK, RECORD, RECORD_Z, TARGETS, TARGET_Z};
+pub use chord::Chord;
 pub use design::{point, section, table, Design, Point, PointKind, Table, FACE};
-pub use leaves::{asym, exp2, gain, hermite, log2, max, min, over, ratio_of, read, ring_len};
+pub use leaves::{asym, chord_read, exp2, gain, hermite, log2, max, min, over, ratio_of, read, ring_len};
 pub use leaves::{root, saturation_gain, soft_clip, svf, tan, targets_of};
 pub use parking::{park, park_len, parked_setup, restore};
 pub use refusal::Refusal;

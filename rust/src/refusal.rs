@@ -2,8 +2,8 @@
 
 use std::fmt;
 
-/// Why a call was refused; it changed nothing. Checks run in this order, each call making those whose values it takes; those of a parked file in the
-/// order that [`restore`](crate::restore) says.
+/// Why a call was refused; it changed nothing. Checks run in this order, but for [`Refusal::Chord`], which stands between [`Refusal::Structure`] and
+/// [`Refusal::Store`]; each call makes those whose values it takes. Those of a parked file run in the order that [`restore`](crate::restore) says.
 #[derive(Clone, Copy, Debug, PartialEq, Eq, Hash)]
 #[non_exhaustive]
 pub enum Refusal {
@@ -15,7 +15,7 @@ pub enum Refusal {
     Polyphony = 3,
     /// The channels are not 1 or 2.
     Layout = 4,
-    /// The code is not 1 to 12.
+    /// The code is not 1 to 13.
     Structure = 5,
     /// Targets, records, delay or the file to be written are not exactly as long as the setup asks.
     Store = 6,
@@ -35,17 +35,20 @@ pub enum Refusal {
     Blocks = 13,
     /// Targets, records or delay of an audition's scratch are not exactly as long as the setup asks.
     Scratch = 14,
-    /// A parked file has no words for the bank: its table has three axes, or the bits of a z number, of targets or records, are not all zero.
+    /// A parked file has no words for the bank: it is a chord comb, its table has three axes, or the bits of a z number, of targets or records, are not
+    /// all zero.
     Unparkable = 15,
+    /// Of a chord comb the count is not 1 to 8, or the offset of one of its teeth is NaN, below 0 or above 2.
+    Chord = 16,
 }
 
 /// Each refusal with its word and its condition.
-const ALL: [(Refusal, &str, &str); 15] = [
+const ALL: [(Refusal, &str, &str); 16] = [
     (Refusal::Rate, "rate", "rate NaN, below 8,000 or above 384,000"),
     (Refusal::Tuning, "tuning", "reference NaN, below 1 or above 20,000"),
     (Refusal::Polyphony, "polyphony", "voices not 1 to 16"),
     (Refusal::Layout, "layout", "channels not 1 or 2"),
-    (Refusal::Structure, "structure", "code not 1 to 12"),
+    (Refusal::Structure, "structure", "code not 1 to 13"),
     (Refusal::Store, "store", "targets, records, delay or the file to be written of a wrong length"),
     (Refusal::Voice, "voice", "voice number not below voices"),
     (Refusal::Knob, "knob", "NaN resonance, drive, saturation, character or mix"),
@@ -55,11 +58,12 @@ const ALL: [(Refusal, &str, &str); 15] = [
     (Refusal::Damaged, "damaged", "file's length no multiple of 512, or a block's sum wrong"),
     (Refusal::Blocks, "blocks", "block missing, doubled or unknown, or clean above 1"),
     (Refusal::Scratch, "scratch", "targets, records or delay of a scratch of a wrong length"),
-    (Refusal::Unparkable, "unparkable", "three-axis table, or a z number whose bits are not all zero"),
+    (Refusal::Unparkable, "unparkable", "chord comb, three-axis table, or a z number whose bits are not all zero"),
+    (Refusal::Chord, "chord", "chord comb's count not 1 to 8, or an offset NaN, below 0 or above 2"),
 ];
 
 impl Refusal {
-    /// The refusal of a number, 1 to 15.
+    /// The refusal of a number, 1 to 16.
     pub fn from_number(number: u32) -> Option<Refusal> {
         ALL.iter().map(|row| row.0).find(|r| r.number() == number)
     }

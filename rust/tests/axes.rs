@@ -62,9 +62,9 @@ fn a_section_between_the_faces() {
     assert_eq!(section(&d, 8, 0.0, 0.0, 0.0), Err(Refusal::Point));
 }
 
-/// A bank of one voice in stereo at z, started.
+/// A bank of one voice in stereo at z, started. A chord comb has one tooth.
 fn at_z(code: u32, table: Table, morph_z: f32) -> Bank {
-    let mut bank = Bank::open(Setup { code, table, ..Setup::new(Structure::K35, 48000.0, 1, 2) }).unwrap();
+    let mut bank = Bank::open(Setup { code, table, chord: Chord::new(&[0.0]), ..Setup::new(Structure::K35, 48000.0, 1, 2) }).unwrap();
     bank.set(0, &VoiceParams { resonance: 0.6, morph_x: 0.25, morph_y: 0.5, morph_z, ..VoiceParams::default() }).unwrap();
     bank.start(0).unwrap();
     bank
@@ -84,7 +84,7 @@ fn play(bank: &mut Bank, frames: usize) -> Vec<f32> {
 /// z is held to 0 .. 1 and NaN acts as 0; a start copies it; a block glides there.
 #[test]
 fn z_of_every_structure() {
-    for code in 1..=12 {
+    for code in 1..=13 {
         for (given, z) in [(f32::NAN, 0.0), (-1.0, 0.0), (-0.0, -0.0), (0.5, 0.5), (2.0, 1.0), (f32::INFINITY, 1.0)] {
             assert_eq!(zs(&at_z(code, Table::default(), given)), bits(&[z; 3]), "code {code}, z {given}");
         }
@@ -131,8 +131,8 @@ fn z_is_a_voice_s_own() {
     assert_eq!(bits(alone.records()), bits(&company.records()[RECORD..]));
 }
 
-/// What a file has no words for: a table of three axes, whatever the code; a z number that is not +0, of any voice or slot. After `Store`; and nothing
-/// is written.
+/// What a file has no words for: a table of three axes, whatever the code; a z number that is not +0, of any voice or slot; and (`chords.rs`) a chord comb.
+/// After `Store`; and nothing is written.
 #[test]
 fn what_is_not_parked() {
     for code in 1..=12 {

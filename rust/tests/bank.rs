@@ -5,6 +5,11 @@ fn setup() -> Setup {
     Setup::new(Structure::DjSweep, 48000.0, 1, 1)
 }
 
+/// A major chord, for the chord comb; the other structures ignore it.
+fn major() -> Chord {
+    Chord::new(&[0.0, 4.0 / 12.0, 7.0 / 12.0])
+}
+
 fn lists(s: &Setup) -> (Vec<f32>, Vec<f32>, Vec<f32>) {
     let [t, r, d] = s.lengths().unwrap();
     (vec![0.5; t], vec![0.5; r], vec![0.5; d])
@@ -38,8 +43,10 @@ fn each_refusal_of_the_setup() {
         (Refusal::Layout, Setup { channels: 0, ..good }),
         (Refusal::Layout, Setup { channels: huge, ..good }),
         (Refusal::Structure, Setup { code: 0, ..good }),
-        (Refusal::Structure, Setup { code: 13, ..good }),
+        (Refusal::Structure, Setup { code: 14, ..good }),
         (Refusal::Structure, Setup { code: u32::MAX, ..good }),
+        (Refusal::Chord, Setup { code: 13, ..good }),
+        (Refusal::Chord, Setup { code: 13, chord: Chord { count: 9, ..major() }, ..good }),
     ];
     for (refusal, s) in cases {
         let (mut t, mut r, mut d) = lists(&good);
@@ -84,16 +91,18 @@ fn each_refusal_of_the_calls() {
 }
 
 #[test]
-fn comb2_moves_the_cursor_and_its_ring() {
-    let s = Setup::new(Structure::Comb2, 48000.0, 1, 2);
-    let (mut t, mut r, mut d) = lists(&s);
-    open(&s, &mut t, &mut r, &mut d).unwrap();
-    let mut audio = [1.0, -1.0];
-    let b = Block { frames: 1, pitch: &[69.0], steering: Some((&[0.0], &[0.0])) };
-    assert_eq!(block(&s, usize::MAX, &t, &mut r, &mut d, b, &mut audio, &mut [7; 2]), Ok((0, 1)));
-    let ring = ring_len(48000.0);
-    let written: Vec<usize> = d.iter().enumerate().filter(|(_, &v)| v != 0.0).map(|(i, _)| i).collect();
-    assert_eq!(written, [ring - 1, 2 * ring - 1]);
+fn combs_move_the_cursor_and_their_rings() {
+    for structure in [Structure::Comb2, Structure::ChordComb] {
+        let s = Setup { chord: major(), ..Setup::new(structure, 48000.0, 1, 2) };
+        let (mut t, mut r, mut d) = lists(&s);
+        open(&s, &mut t, &mut r, &mut d).unwrap();
+        let mut audio = [1.0, -1.0];
+        let b = Block { frames: 1, pitch: &[69.0], steering: Some((&[0.0], &[0.0])) };
+        assert_eq!(block(&s, usize::MAX, &t, &mut r, &mut d, b, &mut audio, &mut [7; 2]), Ok((0, 1)));
+        let ring = ring_len(48000.0);
+        let written: Vec<usize> = d.iter().enumerate().filter(|(_, &v)| v != 0.0).map(|(i, _)| i).collect();
+        assert_eq!(written, [ring - 1, 2 * ring - 1]);
+    }
 }
 
 #[test]
@@ -106,14 +115,14 @@ fn section_refuses_a_ninth_point() {
 
 #[test]
 fn refusals_have_numbers_and_words() {
-    for n in 1..=15 {
+    for n in 1..=16 {
         assert_eq!(Refusal::from_number(n).unwrap().number(), n);
     }
-    assert_eq!((Refusal::from_number(0), Refusal::from_number(16)), (None, None));
+    assert_eq!((Refusal::from_number(0), Refusal::from_number(17)), (None, None));
     let error: Box<dyn std::error::Error> = Box::new(Refusal::Polyphony);
     assert_eq!((error.to_string(), Refusal::Knob.word()), ("refused 3, polyphony: voices not 1 to 16".into(), "knob"));
-    assert_eq!([Refusal::Damaged.word(), Refusal::Blocks.word(), Refusal::Scratch.word(), Refusal::Unparkable.word()],
-        ["damaged", "blocks", "scratch", "unparkable"]);
+    assert_eq!([Refusal::Damaged, Refusal::Blocks, Refusal::Scratch, Refusal::Unparkable, Refusal::Chord].map(Refusal::word),
+        ["damaged", "blocks", "scratch", "unparkable", "chord"]);
 }
 
 #[test]
@@ -121,7 +130,7 @@ fn defaults_are_the_archives() {
     assert_eq!(VoiceParams::default(), VoiceParams::from_array([0.1, 0.0, 0.0, 0.0, 0.0, 1.0, 1.0, 0.0, 0.0, 0.0]));
     let bank = Bank::open(setup()).unwrap();
     assert_eq!(bank.targets(), targets_of(&VoiceParams::default()));
-    assert_eq!(version(), 900);
+    assert_eq!(version(), 1000);
 }
 
 #[test]
@@ -154,9 +163,10 @@ fn counts_of_every_structure() {
         design.put(0, i, Point { kind: PointKind::LowPass, frequency: 90.0 * (i + 1) as f32, q: 1.0 });
     }
     let pitch = [200.0, 110.0, 20.0, 110.0, 200.0, 110.0, 20.0, 110.0, 200.0, 110.0];
-    for code in 1..=12 {
-        let each = match code { 8 => 8, 9 => 2, _ => 1 };
-        let mut bank = Bank::open(Setup { code, reference: 4400.0, table: table(&design), ..Setup::new(Structure::K35, 48000.0, 2, 2) }).unwrap();
+    for code in 1..=13 {
+        let each = match code { 8 => 8, 9 => 2, 13 => 3, _ => 1 };
+        let s = Setup { code, reference: 4400.0, table: table(&design), chord: major(), ..Setup::new(Structure::K35, 48000.0, 2, 2) };
+        let mut bank = Bank::open(s).unwrap();
         bank.set(1, &VoiceParams { stereo_offset: 20.0, ..VoiceParams::default() }).unwrap();
         bank.start(1).unwrap();
         for _ in 0..2 {
@@ -197,8 +207,8 @@ fn noise(n: usize) -> Vec<f32> {
 /// The peaks are of the samples handed back, go on over blocks and sets, and a start clears those of its voice alone.
 #[test]
 fn peaks_of_every_structure() {
-    for code in 1..=12 {
-        let mut bank = Bank::open(Setup { code, ..Setup::new(Structure::K35, 48000.0, 2, 2) }).unwrap();
+    for code in 1..=13 {
+        let mut bank = Bank::open(Setup { code, chord: major(), ..Setup::new(Structure::K35, 48000.0, 2, 2) }).unwrap();
         let mut greatest = [0.0f32; 4];
         for frames in [5, 1, 64] {
             let level = 8.0 / frames as f32;
@@ -239,8 +249,8 @@ fn peaks_from_any_before() {
 /// With no filtered sound in the mix the sample is the input at its level.
 #[test]
 fn a_peak_is_after_the_mix() {
-    for code in 1..=12 {
-        let mut bank = Bank::open(Setup { code, ..setup() }).unwrap();
+    for code in 1..=13 {
+        let mut bank = Bank::open(Setup { code, chord: major(), ..setup() }).unwrap();
         bank.set(0, &VoiceParams { mix: 0.0, level: 0.25, ..VoiceParams::default() }).unwrap();
         bank.start(0).unwrap();
         bank.block(Block { frames: 4, pitch: &[69.0; 4], steering: None }, &mut [0.5, -1.0, 0.75, 0.0]).unwrap();
@@ -282,7 +292,7 @@ fn played(code: u32) -> Bank {
         design.put(i / 4, i % 4, Point { kind: PointKind::Bell(6.0), frequency: 110.0 * (1 + i % 4 + i / 4) as f32, q: 2.0 });
     }
     let table = Table { gain: 0.75, ..table(&design) };
-    let s = Setup { code, reference: 9000.0, clean: code > 6, table, ..Setup::new(Structure::K35, 8000.0, 2, 2) };
+    let s = Setup { code, reference: 9000.0, clean: code > 6, table, chord: major(), ..Setup::new(Structure::K35, 8000.0, 2, 2) };
     let mut bank = Bank::open(s).unwrap();
     bank.set(1, &VoiceParams { resonance: 0.6, drive: 0.5, character: 0.3, stereo_offset: 3.0, mix: 0.75, ..VoiceParams::default() }).unwrap();
     bank.block(Block { frames: 50, pitch: &[40.0; 100], steering: None }, &mut noise(200)).unwrap();
@@ -294,12 +304,12 @@ fn played(code: u32) -> Bank {
 fn auditions_of_every_structure() {
     let pitch: Vec<f32> = (0..128).map(|i| 20.0 + (i % 67) as f32).collect();
     let (x, y): (Vec<f32>, Vec<f32>) = (0..128).map(|i| (0.125 * (i % 7) as f32, 0.25 * (i % 3) as f32)).unzip();
-    for code in 1..=12 {
+    for code in 1..=13 {
         for steering in [None, Some((&x[..], &y[..]))] {
             let mut bank = played(code);
             let before = image(&bank);
             let b = Block { frames: 64, pitch: &pitch, steering };
-            let mut scratch = Bank::open(Setup { code: 13 - code, ..Setup::new(Structure::K35, 8000.0, 2, 2) }).unwrap();
+            let mut scratch = Bank::open(Setup { code: 14 - code, chord: Chord::new(&[0.0]), ..Setup::new(Structure::K35, 8000.0, 2, 2) }).unwrap();
             let (mut heard, mut audio) = (noise(256), noise(256));
             assert_eq!(bank.audition(b, &mut scratch, &mut heard), Ok(64), "code {code}");
             assert!(image(&bank) == before, "code {code}: the bank stays");
@@ -307,7 +317,7 @@ fn auditions_of_every_structure() {
             assert!(heard == audio && heard != noise(256), "code {code}: the audio");
             assert!(image(&scratch) == image(&bank), "code {code}: the scratch");
             assert!(bank.counts()[0] > 0, "code {code}: something is counted");
-            assert_eq!(bank.cursor(), if code == 9 { 114 } else { 0 });
+            assert_eq!(bank.cursor(), if matches!(code, 9 | 13) { 114 } else { 0 });
             // the block is committed by taking the scratch
             let mut other = Bank::open(*bank.setup()).unwrap();
             scratch.audition(b, &mut other, &mut heard).unwrap();
@@ -321,8 +331,8 @@ fn auditions_of_every_structure() {
 /// The free call answers the copy's cursor, which wraps where the structure has a ring; numbers of any bits come to the scratch.
 #[test]
 fn an_audition_on_lent_lists() {
-    for (structure, next) in [(Structure::Comb2, 0), (Structure::K35, usize::MAX)] {
-        let s = Setup::new(structure, 48000.0, 1, 2);
+    for (structure, next) in [(Structure::Comb2, 0), (Structure::ChordComb, 0), (Structure::K35, usize::MAX)] {
+        let s = Setup { chord: major(), ..Setup::new(structure, 48000.0, 1, 2) };
         let (mut t, mut r, mut d) = lists(&s);
         open(&s, &mut t, &mut r, &mut d).unwrap();
         (t[3], r[12], d[5], d[6]) = (f32::NAN, f32::from_bits(1), -0.0, f32::INFINITY);
@@ -356,11 +366,12 @@ fn each_refusal_of_an_audition() {
     let [nt, nr, nd] = good.lengths().unwrap();
     for lengths in [[nt - 1, nr, nd], [nt + 1, nr, nd], [0, nr, nd], [nt, nr - 1, nd], [nt, nr + 1, nd], [nt, 0, nd], [nt, nr, nd - 1], [nt, nr, nd + 1],
         [nt, nr, 0], [0; 3]] {
-        refused(Refusal::Rate, Setup { rate: f32::NAN, code: 13, ..good }, RECORD, 2, [2, 0, 0, 1], false, lengths);
+        refused(Refusal::Rate, Setup { rate: f32::NAN, code: 14, ..good }, RECORD, 2, [2, 0, 0, 1], false, lengths);
         refused(Refusal::Tuning, Setup { reference: 0.0, ..good }, RECORD, 2, [2, 0, 0, 1], false, lengths);
         refused(Refusal::Polyphony, Setup { voices: usize::MAX, ..good }, RECORD, 2, [2, 0, 0, 1], false, lengths);
         refused(Refusal::Layout, Setup { channels: 3, ..good }, RECORD, 2, [2, 0, 0, 1], false, lengths);
         refused(Refusal::Structure, Setup { code: 0, ..good }, RECORD - 1, 2, [2, 0, 0, 1], false, lengths);
+        refused(Refusal::Chord, Setup { code: 13, ..good }, RECORD - 1, 2, [2, 0, 0, 1], false, lengths);
         refused(Refusal::Store, good, RECORD - 1, 4097, [2, 0, 0, 1], false, lengths);
         refused(Refusal::Frames, good, RECORD, 0, [2, 0, 0, 1], false, lengths);
         refused(Refusal::Frames, good, RECORD, usize::MAX, [1, 0, 0, 0], false, lengths);

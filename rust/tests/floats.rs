@@ -37,7 +37,8 @@ fn noise(n: usize) -> Vec<f32> {
     }).collect()
 }
 
-/// A sitting whose every call is made in the float environment of `mode`: the bits of all that it leaves. With three axes the bank is not parked.
+/// A sitting whose every call is made in the float environment of `mode`: the bits of all that it leaves. With three axes, or a chord, the bank is not
+/// parked.
 fn sitting(code: u32, three_axes: bool, mode: u32) -> Vec<u32> {
     let design = bells(three_axes);
     let p = VoiceParams::from_array([0.7, 0.4, 0.3, 0.35, 1.7, 0.9, 1.0, 0.0, 0.0, if three_axes { 0.3 } else { 0.0 }]);
@@ -47,7 +48,8 @@ fn sitting(code: u32, three_axes: bool, mode: u32) -> Vec<u32> {
     let (mut bank, mut scratch, mut counts) = (None, None, vec![]);
     // SAFETY: between the two only calls of the wrapper are made, which put the default back for themselves.
     unsafe { put_mxcsr(mode) };
-    let setup = Setup { code, table: table(&design), ..Setup::new(Structure::PoleZero, 48000.0, 2, 2) };
+    let chord = if code == 13 { Chord::new(&[0.0, 0.001, 1.75]) } else { Chord::default() };
+    let setup = Setup { code, table: table(&design), chord, ..Setup::new(Structure::PoleZero, 48000.0, 2, 2) };
     let answer = Bank::open(setup).and_then(|mut opened| {
         opened.set(1, &p)?;
         opened.start(1)?;
@@ -56,7 +58,7 @@ fn sitting(code: u32, three_axes: bool, mode: u32) -> Vec<u32> {
         scratch = Some(copy);
         opened.block(b, &mut audio)?;
         counts = opened.counts().to_vec();
-        bank = Some(if three_axes { opened } else { Bank::restore(&opened.park()?)? });
+        bank = Some(if three_axes || code == 13 { opened } else { Bank::restore(&opened.park()?)? });
         Ok(())
     });
     let left = mxcsr();
@@ -70,7 +72,7 @@ fn sitting(code: u32, three_axes: bool, mode: u32) -> Vec<u32> {
 
 #[test]
 fn the_same_bits_in_every_float_environment() {
-    for (code, three_axes) in (1..=12).map(|code| (code, false)).chain([(8, true)]) {
+    for (code, three_axes) in (1..=13).map(|code| (code, false)).chain([(8, true)]) {
         let usual = sitting(code, three_axes, DEFAULT);
         for mode in MODES {
             assert!(sitting(code, three_axes, mode) == usual, "code {code}, three axes {three_axes}, MXCSR {mode:04x}");
@@ -81,12 +83,14 @@ fn the_same_bits_in_every_float_environment() {
 #[test]
 fn leaves_too() {
     let smallest = f32::from_bits(1);
+    let (ring, chord) = (noise(1024), Chord::new(&[0.0, 0.001, 1.75]));
     for mode in MODES {
         // SAFETY: as above.
         unsafe { put_mxcsr(mode) };
-        let (a, b, c) = (root(smallest), exp2(0.3), soft_clip(0.7));
+        let (a, b, c, d) = (root(smallest), exp2(0.3), soft_clip(0.7), chord_read(&ring, 1024, 3, 0, 0.013, &chord));
         unsafe { put_mxcsr(DEFAULT) };
         assert_eq!([a, b, c].map(f32::to_bits), [root(smallest), exp2(0.3), soft_clip(0.7)].map(f32::to_bits), "MXCSR {mode:04x}");
+        assert_eq!(d, chord_read(&ring, 1024, 3, 0, 0.013, &chord), "MXCSR {mode:04x}");
     }
 }
 

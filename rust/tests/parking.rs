@@ -133,7 +133,8 @@ fn lengths_of_files() {
     let setup = |rate, voices, channels| Setup::new(Structure::K35, rate, voices, channels);
     let blocks = |rate, voices, channels| park_len(&setup(rate, voices, channels)) / BLOCK;
     assert_eq!([blocks(8000.0, 1, 1), blocks(48000.0, 16, 2), blocks(384_000.0, 16, 2)], [13, 2162, 16722]);
-    assert_eq!([park_len(&setup(f32::NAN, 1, 1)), park_len(&setup(8000.0, usize::MAX, 1)), park_len(&Setup { code: 13, ..setup(8000.0, 1, 1) })], [0; 3]);
+    let wrong = [setup(f32::NAN, 1, 1), setup(8000.0, usize::MAX, 1), Setup { code: 14, ..setup(8000.0, 1, 1) }, Setup { code: 13, ..setup(8000.0, 1, 1) }];
+    assert_eq!(wrong.map(|s| park_len(&s)), [0; 4]);
     let bank = Bank::open(setup(384_000.0, 1, 2)).unwrap();
     assert_eq!(bank.park().unwrap().len(), BLOCK * (2 + 1 + 2 + 2 * 521));
 }
@@ -277,13 +278,14 @@ fn lists_of_wrong_lengths() {
 #[test]
 fn parking_a_refused_setup() {
     let good = lent(1, 1);
-    let setup = Setup { code: 13, ..good.setup };
+    let setup = Setup { code: 14, ..good.setup };
     let mut bank = Lent { setup, targets: vec![], ..good };
     let mut file = [0xa5; 1024];
     let mut refuses = |setup: Setup, refusal| {
         bank.setup = setup;
         assert_eq!((bank.park(&mut file), file, park_len(&setup)), (Err(refusal), [0xa5; 1024], 0));
     };
+    refuses(Setup { code: 13, ..setup }, Refusal::Chord);
     refuses(setup, Refusal::Structure);
     let setup = Setup { channels: 3, ..setup };
     refuses(setup, Refusal::Layout);

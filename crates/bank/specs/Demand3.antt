@@ -1,5 +1,5 @@
 -- Demand 3 at the bank's engine (document 01, 'A voice from its feed'; document 02, C-11: counts are compared too; C-12 and C-16: lists with park,
--- restore and audition; C-17: ignored numbers): the two statements, then their proofs from voices/specs/Voice and the engine's laws. That a call
+-- restore and audition; C-17, C-18: ignored numbers): the two statements, then their proofs from voices/specs/Voice and the engine's laws. That a call
 -- in a list does what its contract says of a bank alone is voices/specs/Alone. Assumes nothing.
 use mathlib.Core.Path.{_≡_, transport}
 use Prim.Native.Nat.{ℕ, _<_}
@@ -42,7 +42,7 @@ EachVoice s =
     → IsOpened s b → v < s .voices → OfJustParked s b xs
     → Same (engine s) (s .voices) v (bankAfter s b xs) (feedOf s v b xs)
 
--- Two setups that are alike but for their voices, sixteen against one or any, and for numbers that are ignored (C-17): voices of the two banks agree in
+-- Two setups that are alike but for their voices, sixteen against one or any, and for numbers that are ignored (C-17, C-18): voices of the two banks agree in
 -- all that is compared if their feeds are equal.
 abbrev pub TwoSetups : Setup → Setup → Type 0
 TwoSetups s t =

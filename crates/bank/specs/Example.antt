@@ -16,8 +16,8 @@ use Rattle.pole_zero.specs.declared.Table.{Table}
 use Rattle.parts.specs.Parts.{tab, flat, piece, patch}
 use Rattle.text.specs.Text.{bitsOf}
 use Rattle.places.specs.Places.{count, every, soundFile, isOnce}
-use Rattle.setups.specs.Setup.{referenceRefused, setupCheckOf}
-use Rattle.setups.specs.Parked.{fileVerdict, restoreVerdict}
+use Rattle.setups.specs.Setup.{referenceRefused, codesCheckOf, offsetRefused, chordRefused, setupCheckOf}
+use Rattle.setups.specs.Parked.{noChord, fileVerdict, restoreVerdict}
 use Rattle.voices.specs.Calls.{isClear, fine, refused, check, _then_, Bank, Block, Call, callSet, callStart, callBlock}
 use Rattle.voices.specs.Calls.{callPark, callRestore, callAudition, setOf, startSlot, startOf, openOf, openVerdict, verdict, opened}
 use Rattle.voices.specs.Feed.{Frame, eventSet, eventStart, eventFrame, feed}
@@ -26,7 +26,20 @@ use Rattle.checks.specs.Setup.{engine}
 
 -- two mono voices of DjSweep at a rate of 8,000, with any table
 setup : Table → Setup
-setup t = record { code = 2; rate = whole 8000; reference = whole 440; voices = 2; channels = 1; clean = false; table = t }
+setup t = record { code = 2; rate = whole 8000; reference = whole 440; voices = 2; channels = 1; clean = false; table = t; chord = noChord }
+
+-- the same of the chord comb with so many teeth
+comb : (count : ℕ) → Table → Setup
+comb count t = record {
+  code = 13;
+  rate = whole 8000;
+  reference = whole 440;
+  voices = 2;
+  channels = 1;
+  clean = false;
+  table = t;
+  chord = record { count = count; offsets = replicate 8 zero };
+}
 
 -- any numbers in a table of two axes, or of three
 table : (three : Bool) (sections : List Float) → Table
@@ -42,7 +55,7 @@ lists = record {
 }
 
 open-is-accepted : (t : Table) → openVerdict (engine (setup t)) 2 lists ≡ fine
-unfolding setup lists setupCheckOf referenceRefused rateRefused ringLen nextPower check _then_ isNan lt round size mul toUnsigned
+unfolding setup lists setupCheckOf codesCheckOf chordRefused referenceRefused rateRefused ringLen nextPower check _then_ isNan lt round size mul toUnsigned
 open-is-accepted t = refl
 
 -- the float of each bit pattern, to tell numbers apart
@@ -70,25 +83,38 @@ calls =
     ∷ []
 
 voice-is-refused : (t : Table) → verdict (engine (setup t)) 2 (callStart 2) lists ≡ refused 7
-unfolding setup lists setupCheckOf referenceRefused rateRefused ringLen nextPower check _then_ isNan lt round size mul toUnsigned
+unfolding setup lists setupCheckOf codesCheckOf chordRefused referenceRefused rateRefused ringLen nextPower check _then_ isNan lt round size mul toUnsigned
 voice-is-refused t = refl
 
 -- 24 blocks: two of the setup, two of targets, two of records, nine of each ring
 park-is-accepted : (xs : List Float) → verdict (engine (setup (table false xs))) 2 (callPark 12288) lists ≡ fine
-unfolding setup table lists setupCheckOf referenceRefused rateRefused ringLen nextPower check _then_ isClear every bitsOf isNan toBits lt round size mul
-    toUnsigned
+unfolding setup table lists setupCheckOf codesCheckOf chordRefused referenceRefused rateRefused ringLen nextPower check _then_ isClear every bitsOf isNan
+    toBits lt round size mul toUnsigned
 park-is-accepted xs = refl
 
 axes-are-refused : (xs : List Float) → verdict (engine (setup (table true xs))) 2 (callPark 12288) lists ≡ refused 15
-unfolding setup table lists setupCheckOf referenceRefused rateRefused ringLen nextPower check _then_ isNan lt round size mul toUnsigned
+unfolding setup table lists setupCheckOf codesCheckOf chordRefused referenceRefused rateRefused ringLen nextPower check _then_ isNan lt round
+    size mul toUnsigned
 axes-are-refused xs = refl
 
+-- 16 comes before 6, and 15 is parking's (C-18)
+teeth-are-refused : (t : Table) → openVerdict (engine (comb 9 t)) 2 noLists ≡ refused 16
+unfolding comb noLists setupCheckOf codesCheckOf offsetRefused chordRefused referenceRefused rateRefused check _then_ isNan lt round
+teeth-are-refused t = refl
+
+comb-is-not-parked : (xs : List Float) → verdict (engine (comb 8 (table false xs))) 2 (callPark 12288) lists ≡ refused 15
+unfolding comb table lists setupCheckOf codesCheckOf offsetRefused chordRefused referenceRefused rateRefused ringLen nextPower check _then_ isNan lt round
+    size mul toUnsigned
+comb-is-not-parked xs = refl
+
 audition-is-accepted : (t : Table) → verdict (engine (setup t)) 2 (callAudition block lists) lists ≡ fine
-unfolding setup lists block setupCheckOf referenceRefused rateRefused ringLen nextPower check _then_ isNan lt round size mul toUnsigned
+unfolding setup lists block setupCheckOf codesCheckOf chordRefused referenceRefused rateRefused ringLen nextPower check _then_ isNan lt round
+    size mul toUnsigned
 audition-is-accepted t = refl
 
 scratch-is-refused : (t : Table) → verdict (engine (setup t)) 2 (callAudition block noLists) lists ≡ refused 14
-unfolding setup lists noLists block setupCheckOf referenceRefused rateRefused ringLen nextPower check _then_ isNan lt round size mul toUnsigned
+unfolding setup lists noLists block setupCheckOf codesCheckOf chordRefused referenceRefused rateRefused ringLen nextPower check _then_ isNan lt round
+    size mul toUnsigned
 scratch-is-refused t = refl
 
 empty-is-refused : (t : Table) → verdict (engine (setup t)) 2 (callRestore [] lists) lists ≡ refused 13
@@ -105,7 +131,8 @@ frame1 = record { pitch = number 3; inputs = number 3 ∷ []; steering = some (n
 feed-computes : (xs : List Float)
     → feed (engine (setup (table false xs))) 2 1 calls (opened (engine (setup (table false xs))) 2 lists)
     ≡ eventSet defaultParams ∷ eventStart ∷ eventFrame frame0 ∷ eventFrame frame1 ∷ []
-unfolding setup table lists setupCheckOf referenceRefused rateRefused ringLen nextPower check _then_ isNan lt round size mul toUnsigned
+unfolding setup table lists setupCheckOf codesCheckOf chordRefused referenceRefused rateRefused ringLen nextPower check _then_ isNan lt round
+    size mul toUnsigned
     isClear bitsOf toBits morphOf unitOrNan clampOf
     restoreVerdict fileVerdict soundFile every isOnce count block noLists calls frame0 frame1 openOf startOf startSlot setOf piece patch
     nanKnob defaultParams voiceTargets targetsOf morphTargetsOf

@@ -162,17 +162,19 @@ pub fn block(
     }
     let table = setup.table;
     let sections = table.sections;
+    let chord = setup.chord;
     let prepared = Prepared {
         m: Structure {
             code: setup.code,
             active: table.active,
             three: table.three,
             gain: table.gain,
-            k: run::constants_of(setup.rate, setup.reference, setup.clean),
+            k: run::constants_of(setup.rate, setup.reference, setup.clean, chord),
         },
         rate: setup.rate,
         reference: setup.reference,
         clean: setup.clean,
+        chord: chord,
         voices: setup.voices,
         channels: setup.channels,
         cursor: cursor,

@@ -13,6 +13,7 @@ soloOf s = record {
   channels = s .channels;
   clean = s .clean;
   table = s .table;
+  chord = s .chord;
 }
 
 -- what the calls make of it

@@ -4,12 +4,13 @@ ghost use mathlib.Core.Bool.{cond};
 ghost use mathlib.Core.List.{[]};
 ghost use Prim.Native.Nat.{_*_, _<_};
 ghost use lib.ListN.{length};
-ghost use Rattle.setups.specs.Setup.{referenceRefused, within, setupCheckOf};
+ghost use Rattle.setups.specs.Setup.{referenceRefused, within, codesCheckOf, offsetRefused, chordRefused, setupCheckOf};
 ghost use Rattle.lines.specs.Lines.{ringLen};
 ghost use Rattle.voices.specs.Calls.{fine, callSet, callStart, callBlock, callPark, callAudition, areLong, fileLength};
 ghost use Rattle.voices.specs.Calls.{targetsWidth, recordWidth, isClear, isFlat};
 ghost use Rattle.checks.specs.Setup.{soloOf, engine};
 ghost use Rattle.checks.specs.Checks.{checkOf, bankOf, blockFrom, IsOpenVerdict, IsVerdict};
+use extended::Chord;
 use filter::VoiceParams;
 use pole_zero::Table;
 use voices::RECORD_WIDTH;
@@ -24,6 +25,7 @@ pub struct Setup {
     pub channels: usize,
     pub clean: bool,
     pub table: Table,
+    pub chord: Chord,
 }
 
 // What the checks of a call come to.
@@ -54,9 +56,9 @@ fn is_within(low: usize, high: usize, n: usize) -> bool
     n <= high
 }
 
-// Refusals 1 to 5.
-pub fn setup_check(setup: Setup) -> Verdict
-    ensures { λ r. ⌜ checkOf r ≡ setupCheckOf (soloOf setup) (setup .voices) ⌝ }
+// Refusals 1 to 5, where `codes` is the highest code.
+pub fn codes_check(setup: Setup, codes: usize) -> Verdict
+    ensures { λ r. ⌜ checkOf r ≡ codesCheckOf codes (soloOf setup) (setup .voices) ⌝ }
 {
     if lines::rate_refused(setup.rate) {
         return Verdict::Refused(1);
@@ -70,11 +72,58 @@ pub fn setup_check(setup: Setup) -> Verdict
     if !is_within(1, 2, setup.channels) {
         return Verdict::Refused(4);
     }
-    let code = setup.code;
-    match code {
-        1..=12 => Verdict::Fine,
-        _ => Verdict::Refused(5),
+    if !is_within(1, codes, setup.code as usize) {
+        return Verdict::Refused(5);
     }
+    Verdict::Fine
+}
+
+// Whether an octave offset is NaN, below 0 or above 2.
+fn offset_refused(offset: f32) -> bool
+    ensures { λ r. ⌜ r ≡ offsetRefused offset ⌝ }
+{
+    if offset != offset {
+        return true;
+    }
+    if offset < 0.0 {
+        return true;
+    }
+    offset > 2.0
+}
+
+// Refusal 16 (C-18): a bad count of code 13, or a bad offset among so many.
+fn chord_refused(code: u32, chord: Chord) -> bool
+    ensures { λ r. ⌜ r ≡ chordRefused code chord ⌝ }
+{
+    if code != 13 {
+        return false;
+    }
+    let count = chord.count as usize;
+    if !is_within(1, 8, count) {
+        return true;
+    }
+    let offsets = chord.offsets;
+    let mut refused = false;
+    let mut j: usize = 0;
+    while j < count {
+        refused = refused | offset_refused(offsets[j]);
+        j += 1;
+    }
+    refused
+}
+
+// Refusals 1 to 5, then 16.
+pub fn setup_check(setup: Setup) -> Verdict
+    ensures { λ r. ⌜ checkOf r ≡ setupCheckOf (soloOf setup) (setup .voices) ⌝ }
+{
+    let first = codes_check(setup, 13);
+    if let Verdict::Refused(n) = first {
+        return Verdict::Refused(n);
+    }
+    if chord_refused(setup.code, setup.chord) {
+        return Verdict::Refused(16);
+    }
+    Verdict::Fine
 }
 
 // Whether the lists are as long as an accepted setup asks.
@@ -185,7 +234,7 @@ fn is_flat(setup: Setup, targets: &[f32], records: &[f32]) -> bool
     is_clear(records, RECORD_WIDTH, RECORD_WIDTH - 1, slots)
 }
 
-// Those of open, then 6 of the list that park writes, then 15 of a third axis (C-17), for which a parked file has no words.
+// Those of open, then 6 of the list that park writes, then 15 of a third axis (C-17) or a chord (C-18), for which a parked file has no words.
 pub fn park_check(
     setup: Setup,
     targets: &[f32],
@@ -204,6 +253,9 @@ pub fn park_check(
     }
     let table = setup.table;
     if table.three {
+        return Verdict::Refused(15);
+    }
+    if setup.code == 13 {
         return Verdict::Refused(15);
     }
     if !is_flat(setup, targets, records) {

@@ -1,3 +1,6 @@
--- To be read: Combs.
+-- To be read: Combs, AsComb2.
 pub mod Combs
 pub mod Contracts
+pub mod Ends
+pub mod Ones
+pub mod AsComb2

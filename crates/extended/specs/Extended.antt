@@ -1,4 +1,4 @@
--- What every extended kernel works with (extended.rs; document 02, C-17): one tick's settings, the shapers, the marks of each structure.
+-- What every extended kernel works with (extended.rs; document 02, C-17, C-18): one tick's settings, the shapers, the marks of each structure.
 -- Definitions only. Assumes nothing.
 use Prim.Native.Nat.{ℕ}
 use mathlib.Core.Bool.{Bool, _||_, _&&_}
@@ -9,6 +9,7 @@ use Rattle.lane.specs.Floats.{_⊕_, _⊖_, _⊗_, _⊘_, _‼_, decimal, whole
 use Rattle.lane.specs.Lane.{maxOf, minOf, softClip}
 use Rattle.filter.specs.declared.Ratio.{Ratio}
 use Rattle.filter.specs.Voice.{RES, «INV_KNEE», CHARACTER, «MORPH_Z»}
+use Rattle.extended.specs.declared.Chord.{Chord}
 use Rattle.extended.specs.declared.Settings.{Settings}
 
 -- what a kernel's tick gives: its sample, and its 20 states after it
@@ -20,9 +21,9 @@ abbrev pub ticked : Float → List Float → Ticked
 ticked out state = record { out = out; state = state }
 
 -- one tick's settings: from the smoothed numbers, and x and y after steering and lag. z (C-17) is the smoothed one, without either; PoleZero holds it to
--- 0 .. 1
-unfoldable pub settingsAt : Ratio → (params : List Float) (x y : Float) → Settings
-settingsAt reference params x y =
+-- 0 .. 1. The chord (C-18) is the setup's
+unfoldable pub settingsAt : Ratio → Chord → (params : List Float) (x y : Float) → Settings
+settingsAt reference chord params x y =
     record {
       resonance = params ‼ RES;
       «inv_knee» = params ‼ «INV_KNEE»;
@@ -32,6 +33,7 @@ settingsAt reference params x y =
       z = params ‼ «MORPH_Z»;
       «ref_over_rate» = reference;
       «reference_ratio» = reference;
+      chord = chord;
     }
 
 -- unit: held to 0 .. 1 by max and min, so a NaN becomes 0
@@ -61,6 +63,6 @@ asymOf x = (softClip (x ⊕ asymBias) ⊖ softClip asymBias) ⊗ (one ⊘ asymSl
 unfoldable pub smoothMark : ℕ → Bool
 smoothMark code = leb 4 code && leb code 6 || eqb code 8
 
--- LINES: Comb2
+-- LINES: Comb2 and the chord comb (C-18)
 unfoldable pub linesMark : ℕ → Bool
-linesMark code = eqb code 9
+linesMark code = eqb code 9 || eqb code 13

@@ -4,8 +4,14 @@ ghost use mathlib.Core.Bool.{Bool};
 ghost use Rattle.extended.specs.Extended.{settingsAt, unitOr0, absOf, asymSlope, asymOf, smoothMark, linesMark};
 use filter::Ratio;
 
+// The chord comb's teeth (code 13): how many, and each one's octaves above the cutoff.
+pub struct Chord {
+    pub count: u32,
+    pub offsets: [f32; 8],
+}
+
 // One sample's settings, smoothed. `ref_over_rate` is the reference over the rate for the gains,
-// `reference_ratio` the same for the delay lines.
+// `reference_ratio` the same for the delay lines. `chord` is the setup's.
 pub struct Settings {
     pub resonance: f32,
     pub inv_knee: f32,
@@ -15,6 +21,7 @@ pub struct Settings {
     pub z: f32,
     pub ref_over_rate: Ratio,
     pub reference_ratio: Ratio,
+    pub chord: Chord,
 }
 
 // Where the settings stand among the smoothed numbers.
@@ -27,8 +34,8 @@ const CHARACTER: usize = 7;
 const MORPH_Z: usize = 10;
 
 // The settings of the smoothed numbers, at X and Y.
-pub fn settings_at(reference: Ratio, params: &[f32; 11], x: f32, y: f32) -> Settings
-    ensures { λ r. ⌜ r ≡ settingsAt reference (now (params .entry)) x y ⌝ }
+pub fn settings_at(reference: Ratio, chord: Chord, params: &[f32; 11], x: f32, y: f32) -> Settings
+    ensures { λ r. ⌜ r ≡ settingsAt reference chord (now (params .entry)) x y ⌝ }
 {
     Settings {
         resonance: params[RES],
@@ -39,6 +46,7 @@ pub fn settings_at(reference: Ratio, params: &[f32; 11], x: f32, y: f32) -> Sett
         z: params[MORPH_Z],
         ref_over_rate: reference,
         reference_ratio: reference,
+        chord: chord,
     }
 }
 
@@ -92,5 +100,9 @@ pub fn is_smooth(code: u32) -> bool
 pub fn has_lines(code: u32) -> bool
     ensures { λ r. ⌜ r ≡ linesMark code ⌝ }
 {
-    code == 9
+    match code {
+        9 => true,
+        13 => true,
+        _ => false,
+    }
 }

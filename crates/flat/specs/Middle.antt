@@ -23,7 +23,17 @@ middle = record { 0 = neutralPitch }
 abbrev pub settings : Settings
 settings =
     let ratio : Ratio = record { 0 = whole 440 ⊘ whole 48000 } in
-    record { resonance = zero; «inv_knee» = one; character = zero; x = zero; y = zero; z = zero; «ref_over_rate» = ratio; «reference_ratio» = ratio }
+    record {
+      resonance = zero;
+      «inv_knee» = one;
+      character = zero;
+      x = zero;
+      y = zero;
+      z = zero;
+      «ref_over_rate» = ratio;
+      «reference_ratio» = ratio;
+      chord = record { count = 0; offsets = replicate 8 zero };
+    }
 
 abbrev pub zeroStates : List Float
 zeroStates = replicate 20 zero

@@ -9,6 +9,7 @@ use lib.ListN.{length, take, replicate}
 use lib.Ieee.{Float}
 use Rattle.lane.specs.Floats.{whole, zero, one}
 use Rattle.lines.specs.Lines.{ringLen}
+use Rattle.extended.specs.declared.Chord.{Chord}
 use Rattle.pole_zero.specs.PoleZero.{defaultDesign, tableOf}
 use Rattle.setups.specs.Setup.{within, setupCheckOf}
 use Rattle.voices.specs.Calls.{Check, fine, refused, leastFrames, mostFrames, targetsWidth, recordWidth, openOf, blockOf}
@@ -63,6 +64,10 @@ requestOf s = lineRequest (take (lineEnd s 0) s)
 abbrev pub rateOf : ℕ → Float
 rateOf rate = whole rate
 
+-- C-18, of code 13: "Impulse gives it one offset, 0"
+abbrev pub oneTooth : Chord
+oneTooth = record { count = 1; offsets = replicate 8 zero }
+
 unfoldable pub impulseSetup : (code rate : ℕ) → Setup
 impulseSetup code rate = record {
   code = code;
@@ -72,6 +77,7 @@ impulseSetup code rate = record {
   channels = 1;
   clean = false;
   table = tableOf defaultDesign;
+  chord = oneTooth;
 }
 
 -- ---- "an accepted rate above 131,015 prints `large`, after the setup's refusals and before 9"

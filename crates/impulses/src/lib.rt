@@ -11,6 +11,7 @@ ghost use Rattle.impulses.specs.Impulse.{shortDecimal, asked, lineReques
 ghost use Rattle.impulses.specs.Impulse.{sampleText, samplesText, lineText, largeText, refusedText, steadyPitch, silence, impulseOf};
 ghost use Rattle.impulses.specs.Impulse.{renderedOf, responseOf, answerText, Prints};
 use checks::Setup;
+use extended::Chord;
 use text::Number;
 use text::Span;
 use voices::RECORD_WIDTH;
@@ -107,7 +108,7 @@ pub fn request_of(input: &[u8]) -> Request
 
 // ---- the verdict
 
-// One mono voice, reference 440, not clean, all-bypass table.
+// One mono voice, reference 440, not clean, all-bypass table, one tooth at offset 0.
 fn setup_of(code: u32, rate: u32) -> Setup
     ensures { λ r. ⌜ r ≡ impulseSetup code rate ⌝ }
 {
@@ -119,6 +120,10 @@ fn setup_of(code: u32, rate: u32) -> Setup
         channels: 1,
         clean: false,
         table: pole_zero::bypass_table(),
+        chord: Chord {
+            count: 1,
+            offsets: [0.0; 8],
+        },
     }
 }
 
@@ -138,7 +143,7 @@ fn after_setup(rate: u32, frames: usize) -> Verdict
     Verdict::Fine
 }
 
-// The setup's refusals, of which 2 to 4 cannot come, then `large`, then 9.
+// The setup's refusals, of which 2 to 4 and 16 cannot come, then `large`, then 9.
 pub fn verdict_of(code: u32, rate: u32, frames: usize) -> Verdict
     ensures { λ r. ⌜ r ≡ verdictOf code rate frames ⌝ }
 {
@@ -146,7 +151,7 @@ pub fn verdict_of(code: u32, rate: u32, frames: usize) -> Verdict
         return Verdict::Refused(1);
     }
     match code {
-        1..=12 => after_setup(rate, frames),
+        1..=13 => after_setup(rate, frames),
         _ => Verdict::Refused(5),
     }
 }

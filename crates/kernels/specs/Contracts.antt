@@ -10,7 +10,10 @@ use Rattle.lines.specs.declared.Ring.{Ring}
 use Rattle.lines.specs.Ring.{cellsAt, withCells}
 use Rattle.filter.specs.declared.Pitch.{Pitch}
 use Rattle.filter.specs.declared.Ratio.{Ratio}
+use Rattle.extended.specs.declared.Chord.{Chord}
 use Rattle.extended.specs.declared.Settings.{Settings}
+use Rattle.teeth.specs.Contracts.{Widths, Planned}
+use Rattle.combs.specs.Combs.{combRatio}
 use Rattle.pole_zero.specs.declared.Table.{Table}
 use Rattle.poles.specs.declared.Series.{Series}
 use Rattle.poles.specs.Poles.{padOf}
@@ -25,11 +28,11 @@ tableWith s sections = record { active = s .active; three = s .three; sections =
 -- ---- what is kept from frame to frame
 
 -- a kept list and count: unless the list's pitch is NaN, they are those of its pitch and character
-unfoldable pub Kept : (code : ℕ) → Ratio → (tuning : List Float) (over : ℕ) → Type 0
-Kept code reference t over =
+unfoldable pub Kept : (code : ℕ) → Ratio → Chord → (tuning : List Float) (over : ℕ) → Type 0
+Kept code reference chord t over =
     isNan (t ‼ 8) ≡ false
-    → (t ≡ tuningOf code (record { 0 = t ‼ 8 }) (keyOf reference (t ‼ 9)))
-    × (over ≡ tunedOver code (record { 0 = t ‼ 8 }) (keyOf reference (t ‼ 9)) over)
+    → (t ≡ tuningOf code (record { 0 = t ‼ 8 }) (keyOf reference chord (t ‼ 9)))
+    × (over ≡ tunedOver code (record { 0 = t ‼ 8 }) (keyOf reference chord (t ‼ 9)) over)
 
 -- PoleZero's: unless the list's pitch is NaN, they are those of its pitch, x, y and z
 unfoldable pub KeptSections : (code : ℕ) → Table → Ratio → (blended : List Float) (over : ℕ) → Type 0
@@ -37,6 +40,15 @@ KeptSections code table reference t over =
     isNan (t ‼ 40) ≡ false
     → (t ≡ poleNumbers (table .sections) (table .active) reference (record { 0 = t ‼ 40 }) (keptPad (table .three) t))
     × (over ≡ blendedOver code table reference (record { 0 = t ‼ 40 }) (keptPad (table .three) t) over)
+
+-- the chord comb's: unless its ratio is NaN, the plan is that of its ratio
+pub record KeptTeeth (len : ℕ) (chord : Chord) (plan : List ℕ) (teeth : List Float) : Type 0 where
+  pub widths : Widths plan teeth
+  pub planned : isNan (teeth ‼ 8) ≡ false → Planned len chord plan teeth
+
+-- of code 13 the plan is that of a pitch and settings
+abbrev pub PlannedAt : (code len : ℕ) → Pitch → Settings → (plan : List ℕ) (teeth : List Float) → Type 0
+PlannedAt code len pitch p plan teeth = code ≡ 13 → Planned len (p .chord) plan teeth × (teeth ‼ 8 ≡ combRatio pitch p)
 
 -- a list's key is this one, and no NaN
 pub record TunedAt (t : List Float) (pitch character : Float) : Type 0 where

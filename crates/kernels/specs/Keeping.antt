@@ -11,13 +11,14 @@ use Rattle.lane.specs.Floats.{_‼_}
 use Rattle.filter.specs.declared.Pitch.{Pitch}
 use Rattle.filter.specs.declared.Ratio.{Ratio}
 use Rattle.filter.specs.Filter.{octavesOf}
+use Rattle.extended.specs.declared.Chord.{Chord}
 use Rattle.extended.specs.declared.Settings.{Settings}
 use Rattle.pole_zero.specs.declared.Table.{Table}
 use Rattle.sweeps.specs.Sweeps.{buzzCoefficients, buzzWith, djCoefficients, djWith, djOver, diffuserCoefficients, diffuserWith}
 use Rattle.ladders.specs.Ladders.{transistorCoefficients, transistorWith, drivenCoefficients, drivenWith}
 use Rattle.ladders.specs.Ladders.{diodeRows, acidCoefficients, acidWith, cleanLadderCoefficients, cleanLadderWith}
 use Rattle.expanders.specs.Expanders.{expanderCoefficients, expanderWith, multimodeWeights, k35Coefficients, k35With}
-use Rattle.combs.specs.Combs.{combCoefficients, combWith, combOver}
+use Rattle.combs.specs.Combs.{combRatio, combOver, combCoefficients, combWith, chordOver}
 use Rattle.poles.specs.declared.Pad.{Pad}
 use Rattle.poles.specs.Poles.{padOf, numberAt, poleCoefficients, poleOver, poleStep}
 use Rattle.poles.specs.Numbers.{poleNumbers, sectionAt, numbers-step}
@@ -63,6 +64,10 @@ module _ (code : ℕ) (t : List Float) (pitch : Pitch) (p : Settings) (e : t ≡
   unfolding tuningOf numbersOf threeNumbers combCoefficients combWith combNumbers
   comb-is k = ap (λ (t : List Float). combWith (t ‼ 0) (t ‼ 1) p) (at 9 k)
 
+  pub ratio-is : code ≡ 13 → t ‼ 0 ≡ combRatio pitch p
+  unfolding tuningOf numbersOf threeNumbers
+  ratio-is k = ap (λ (t : List Float). t ‼ 0) (at 13 k)
+
   pub multimode-is : code ≡ 10 → expanderFrom t p ≡ expanderCoefficients pitch p
   unfolding tuningOf numbersOf gainNumbers threeNumbers expanderCoefficients expanderFrom expanderWith multimodeNumbers
   multimode-is k = ap (λ (t : List Float). expanderFrom t p) (at 10 k)
@@ -91,19 +96,20 @@ withRatio p r =
       z = p .z;
       «ref_over_rate» = p .«ref_over_rate»;
       «reference_ratio» = r;
+      chord = p .chord;
     }
 
--- the numbers follow from the pitch, the reference and the character alone
+-- the numbers follow from the pitch, the reference, the chord and the character alone
 pub key-numbers : (code : ℕ) (pitch : Pitch) (p : Settings) → p .«reference_ratio» ≡ p .«ref_over_rate»
-    → tuningOf code pitch (keyOf (p .«ref_over_rate») (p .character)) ≡ tuningOf code pitch p
+    → tuningOf code pitch (keyOf (p .«ref_over_rate») (p .chord) (p .character)) ≡ tuningOf code pitch p
 unfolding tuningOf numbersOf gainNumbers djNumbers djCoefficients djWith drivenNumbers drivenCoefficients drivenWith combNumbers combCoefficients combWith
-    multimodeNumbers bandNumbers expanderCoefficients expanderWith k35Numbers k35Coefficients k35With keyOf
+    combRatio multimodeNumbers bandNumbers expanderCoefficients expanderWith k35Numbers k35Coefficients k35With keyOf
 key-numbers code pitch p e = ap (λ (r : Ratio). tuningOf code pitch (withRatio p r)) (sym e)
 
 -- so does the count, without the character
 pub key-over : (code : ℕ) (pitch : Pitch) (p : Settings) (before : ℕ) → p .«reference_ratio» ≡ p .«ref_over_rate»
-    → tunedOver code pitch (keyOf (p .«ref_over_rate») (p .character)) before ≡ tunedOver code pitch p before
-unfolding tunedOver combOver djOver keyOf
+    → tunedOver code pitch (keyOf (p .«ref_over_rate») (p .chord) (p .character)) before ≡ tunedOver code pitch p before
+unfolding tunedOver combOver chordOver djOver keyOf
 key-over code pitch p before e = ap (λ (r : Ratio). tunedOver code pitch (withRatio p r) before) (sym e)
 
 -- ---- the count kept with the lists: o before a frame, o1 after the tuning is brought to it, o2 after the sections are
@@ -137,15 +143,15 @@ module _ (code : ℕ) (table : Table) (pitch : Pitch) (p key : Settings) (o o1 o
   sections-pass t h n = (h n .0, passed _ _ o o1 o1 (eqb code 8) e1 (h n .1))
 
 -- what was worked out is kept
-pub kept : (code : ℕ) (reference : Ratio) (pitch : Pitch) (character : Float) (t : List Float) (pole o o1 o2 : ℕ)
-    → t ≡ tuningOf code pitch (keyOf reference character)
-    → o1 ≡ tunedOver code pitch (keyOf reference character) o
+pub kept : (code : ℕ) (reference : Ratio) (chord : Chord) (pitch : Pitch) (character : Float) (t : List Float) (pole o o1 o2 : ℕ)
+    → t ≡ tuningOf code pitch (keyOf reference chord character)
+    → o1 ≡ tunedOver code pitch (keyOf reference chord character) o
     → o2 ≡ cond (eqb code 8) pole o1
-    → Kept code reference t o2
+    → Kept code reference chord t o2
 unfolding Kept tuningOf tunedOver keyOf
-kept code reference pitch character t pole o o1 o2 e e1 e2 h = (
-  e ∙ (λ i. tuningOf code (record { 0 = sym e i ‼ 8 }) (keyOf reference (sym e i ‼ 9))),
-  again pole _ o o1 o2 (eqb code 8) e1 e2 ∙ (λ i. tunedOver code (record { 0 = sym e i ‼ 8 }) (keyOf reference (sym e i ‼ 9)) o2),
+kept code reference chord pitch character t pole o o1 o2 e e1 e2 h = (
+  e ∙ (λ i. tuningOf code (record { 0 = sym e i ‼ 8 }) (keyOf reference chord (sym e i ‼ 9))),
+  again pole _ o o1 o2 (eqb code 8) e1 e2 ∙ (λ i. tunedOver code (record { 0 = sym e i ‼ 8 }) (keyOf reference chord (sym e i ‼ 9)) o2),
 )
 
 module _ (code : ℕ) (table : Table) (pitch : Pitch) (p : Settings) (before after : List Float)

@@ -2,7 +2,8 @@
 -- A kernel keeps its states' number and its ring's length, and its tick judges at most eight ratios, whatever the structure.
 -- Assumes nothing.
 use mathlib.Core.Path.{_≡_, refl}
-use Prim.Native.Nat.{ℕ, _+_, _≤_, min, zero-le}
+use Prim.Native.Nat.{ℕ, _+_, _*_, _≤_, min, zero-le}
+use native.Mathlib.Nat.{mul-le-mul-left}
 use native.Mathlib.Omega.{arith}
 use mathlib.Core.Bool.{Bool, true, false, cond}
 use mathlib.Core.List.{List}
@@ -39,7 +40,10 @@ use Rattle.expanders.specs.Expanders.{expanderCoefficients, bandStep, multimode
 use Rattle.poles.specs.declared.PoleSection.{PoleSection}
 use Rattle.poles.specs.Poles.{term, padOf, numberAt, poleCoefficients, sectionOver, poleOver, poleStage, poleSeries, poleStep}
 use Rattle.combs.specs.declared.Comb2.{Comb2}
-use Rattle.combs.specs.Combs.{combCoefficients, combOver, combStep}
+use Rattle.extended.specs.declared.Chord.{Chord}
+use Rattle.teeth.specs.Teeth.{teethOf}
+use Rattle.combs.specs.declared.FeedbackPath.{FeedbackPath}
+use Rattle.combs.specs.Combs.{combEnd, combCoefficients, combOver, combStep, feedbackPath, combRatio, chordStep, chordOver}
 use Rattle.kernels.specs.Kernels.{Kernel, onStates, kernelOf, overCount}
 
 -- ---- the states of each kernel are as many as they were
@@ -101,9 +105,19 @@ module _ (state : List Float) (x : Float) where
       (λ j d h e. simp length-set e)
       refl
 
+-- so are the cells of both combs' rings
+end-length : (c : FeedbackPath) (len cursor : ℕ) (ring : List Float) (taps x : Float) → length (combEnd c len cursor ring taps x .ring) ≡ length ring
+unfolding combEnd ringWrite
+end-length c len cursor ring taps x = simp length-set
+
 comb-length : (c : Comb2) (len cursor : ℕ) (ring : List Float) (x : Float) → length (combStep c len cursor ring x .ring) ≡ length ring
-unfolding combStep ringWrite
-comb-length c len cursor ring x = simp length-set
+unfolding combStep
+comb-length c len cursor ring x = end-length (c .path) len cursor ring _ x
+
+chord-length : (c : FeedbackPath) (ratio : Float) (chord : Chord) (len cursor : ℕ) (ring : List Float) (x : Float)
+    → length (chordStep c ratio chord len cursor ring x .ring) ≡ length ring
+unfolding chordStep
+chord-length c ratio chord len cursor ring x = end-length c len cursor ring _ x
 
 -- ---- the kernel that the code chooses
 
@@ -141,7 +155,9 @@ module _ (code : ℕ) (table : Table) (len cursor : ℕ) (pitch : Pitch) (p : Se
       (one-of 10 (multimodeStep _ _ state x) (multimode-length state x (expanderCoefficients pitch p) (multimodeWeights (p .character))) _
       (one-of 11 (bandStep _ state x) (band-length state x (expanderCoefficients pitch p)) _
       (one-of 12 (k35Step _ state x) (k35-length state x (k35Coefficients pitch p)) _
-      (record { states = refl; cells = refl }))))))))))))
+      (either state ring (eqb code 13) _ _
+      (record { states = refl; cells = chord-length (feedbackPath p) (combRatio pitch p) (p .chord) len cursor ring x })
+      (record { states = refl; cells = refl })))))))))))))
 
 -- ---- a tick judges at most eight ratios
 
@@ -152,8 +168,12 @@ at-most : (b : Bool) (x y : ℕ) → x ≤ 8 → y ≤ 8 → cond b x y ≤ 8
 at-most true x y hx hy = hx
 at-most false x y hx hy = hy
 
+pub chord-most : (c : Chord) (m : ℕ) → m ≤ 1 → teethOf c * m ≤ 8
+unfolding teethOf
+chord-most c m h = omega (arith, mul-le-mul-left (min (c .count) 8) h)
+
 pub over-most : (code : ℕ) (table : Table) (pitch : Pitch) (p : Settings) → overCount code table pitch p ≤ 8
-unfolding overCount poleOver sectionOver
+unfolding overCount poleOver sectionOver chordOver
 over-most code table pitch p =
     let comb = once-most (combOver pitch p) in
     let sweep = once-most (djOver pitch p) in
@@ -164,4 +184,5 @@ over-most code table pitch p =
     (λ j. once-most (overAt (octavesOf pitch ⊕ at (term j 0)) (p .«ref_over_rate»)))
     (min (table .active) 8) in
     at-most (eqb code 8) _ _ (omega (arith, poles))
-    (at-most (eqb code 9) _ _ (omega (arith, comb)) (at-most (eqb code 2) _ _ (omega (arith, sweep)) (omega (arith, other))))
+    (at-most (eqb code 9) _ _ (omega (arith, comb))
+    (at-most (eqb code 13) _ _ (chord-most (p .chord) _ comb) (at-most (eqb code 2) _ _ (omega (arith, sweep)) (omega (arith, other)))))

@@ -1,7 +1,7 @@
 -- For the proofs: nothing here must be believed.
 -- What a kernel has of the pitch and the character alone, kept from frame to frame: a list of ten numbers, of which the last two
--- are the pitch and the character that the first eight follow from. PoleZero has a list of its own, of the pitch, x, y and z. With them is
--- kept how often a tick at those numbers judges a ratio greater than its cap.
+-- are the pitch and the character that the first eight follow from. PoleZero has a list of its own, of the pitch, x, y and z, and the chord
+-- comb a plan of its teeth, of the ratio (teeth/specs/Contracts.antt). With them is kept how often a tick at those numbers judges a ratio greater than its cap.
 -- Definitions only. Assumes nothing.
 use Prim.Native.Nat.{ℕ, _+_}
 use mathlib.Core.Bool.{Bool, cond}
@@ -12,6 +12,7 @@ use Rattle.lane.specs.Floats.{_‼_, zero}
 use Rattle.filter.specs.declared.Pitch.{Pitch}
 use Rattle.filter.specs.declared.Ratio.{Ratio}
 use Rattle.filter.specs.Filter.{octavesOf, gainOf, overOf, once}
+use Rattle.extended.specs.declared.Chord.{Chord}
 use Rattle.extended.specs.declared.Settings.{Settings}
 use Rattle.pole_zero.specs.declared.Table.{Table}
 use Rattle.sweeps.specs.declared.DjSweep.{DjSweep}
@@ -24,7 +25,7 @@ use Rattle.expanders.specs.declared.Expander.{Expander}
 use Rattle.expanders.specs.declared.K35.{K35}
 use Rattle.expanders.specs.Expanders.{expanderCoefficients, multimodeWeights, k35Coefficients, expanderWith}
 use Rattle.combs.specs.declared.Comb2.{Comb2}
-use Rattle.combs.specs.Combs.{combCoefficients, combOver}
+use Rattle.combs.specs.Combs.{combCoefficients, combOver, combRatio, chordOver}
 use Rattle.poles.specs.declared.Pad.{Pad}
 use Rattle.poles.specs.Poles.{padOf, numberAt, poleOver}
 use Rattle.poles.specs.Numbers.{poleNumbers}
@@ -72,15 +73,17 @@ numbersOf code pitch p =
     cond (eqb code 2) (djNumbers (djCoefficients pitch p))
     (cond (eqb code 8) (threeNumbers zero zero zero)
     (cond (eqb code 9) (combNumbers (combCoefficients pitch p))
-    (gainNumbers code pitch p)))
+    (cond (eqb code 13) (threeNumbers (combRatio pitch p) zero zero)
+    (gainNumbers code pitch p))))
 
 -- how often a tick judges a ratio greater than its cap; PoleZero's number stays as it was
 unfoldable pub tunedOver : (code : ℕ) → Pitch → Settings → (before : ℕ) → ℕ
 tunedOver code pitch p before =
     cond (eqb code 8) before
     (cond (eqb code 9) (once (combOver pitch p) + once (combOver pitch p))
+    (cond (eqb code 13) (chordOver pitch p)
     (cond (eqb code 2) (once (djOver pitch p))
-    (once (overOf pitch (p .«ref_over_rate»)))))
+    (once (overOf pitch (p .«ref_over_rate»))))))
 
 -- the list
 unfoldable pub tuningOf : (code : ℕ) → Pitch → Settings → List Float
@@ -99,8 +102,8 @@ unfoldable pub weightsFrom : List Float → Five
 weightsFrom t = record { 0 = t ‼ 3; 1 = t ‼ 4; 2 = t ‼ 5; 3 = t ‼ 6; 4 = t ‼ 7 }
 
 -- the settings that the numbers follow from
-unfoldable pub keyOf : Ratio → (character : Float) → Settings
-keyOf reference character =
+unfoldable pub keyOf : Ratio → Chord → (character : Float) → Settings
+keyOf reference chord character =
     record {
       resonance = zero;
       «inv_knee» = zero;
@@ -110,6 +113,7 @@ keyOf reference character =
       z = zero;
       «ref_over_rate» = reference;
       «reference_ratio» = reference;
+      chord = chord;
     }
 
 -- PoleZero's list at a pitch and settings; any other structure leaves it as it was

@@ -2,7 +2,7 @@
 ghost use mathlib.Core.Path.{_≡_};
 ghost use Rattle.lines.specs.Ring.{StandsIn};
 ghost use Rattle.kernels.specs.Tuning.{rowsFrom, expanderFrom, weightsFrom};
-ghost use Rattle.kernels.specs.Contracts.{tableWith, Tuned, kernelAt, KernelLeaves};
+ghost use Rattle.kernels.specs.Contracts.{tableWith, Tuned, PlannedAt, kernelAt, KernelLeaves};
 
 pub mod tuning;
 
@@ -42,13 +42,15 @@ fn weights_of(tuning: &[f32; 10]) -> Five
 }
 
 // One tick of the structure `code`. `tuning` holds the numbers kept at this pitch and character, `blended`
-// PoleZero's at this pitch, X, Y and Z.
+// PoleZero's at this pitch, X, Y and Z, `plan` and `teeth` the chord comb's at this pitch.
 pub fn kernel(
     code: u32,
     sections: &[f32; 320],
     series: Series,
     tuning: &[f32; 10],
     blended: &[f32; 44],
+    plan: &[usize; 65],
+    teeth: &[f32; 9],
     state: &mut [f32; 20],
     delay: &mut [f32],
     at: Ring,
@@ -56,7 +58,8 @@ pub fn kernel(
     p: Settings,
     x: f32,
 ) -> f32
-    requires { ⌜ (StandsIn (now delay) at) × (Tuned code (tableWith series (now sections)) pitch p (now tuning) (now blended)) ⌝ }
+    requires { ⌜ (StandsIn (now delay) at) × (Tuned code (tableWith series (now sections)) pitch p (now tuning) (now blended))
+        × (PlannedAt code (at .len) pitch p (now plan) (now teeth)) ⌝ }
     ensures { λ r. ⌜ KernelLeaves
         (kernelAt code (tableWith series (now (sections .entry))) at pitch p (now (state .entry)) (now (delay .entry)) x)
         (now (delay .entry)) at r (now (state .exit)) (now (delay .exit)) ⌝ }
@@ -86,6 +89,10 @@ pub fn kernel(
             state,
             x,
         ),
+        13 => {
+            let chord = p.chord;
+            combs::chord_step(combs::feedback_path(p), chord, plan, teeth, delay, at, x)
+        }
         _ => x,
     }
 }

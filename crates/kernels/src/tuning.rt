@@ -1,20 +1,24 @@
 // What a kernel has of the pitch and the character alone, or PoleZero of the pitch, X, Y and Z, kept from frame to frame and worked out
-// again when one of them changes.
+// again when one of them changes; and the chord comb's plan, of the ratio.
 ghost use mathlib.Core.Path.{_≡_};
 ghost use mathlib.Core.Bool.{true, false};
 ghost use lib.Ieee.{isNan};
 ghost use Prim.Native.Nat.{_+_};
 ghost use Rattle.filter.specs.Filter.{gainOf, overOf, once};
 ghost use Rattle.sweeps.specs.Sweeps.{djCoefficients, djOver};
-ghost use Rattle.combs.specs.Combs.{combCoefficients, combOver};
+ghost use Rattle.combs.specs.Combs.{combCoefficients, combOver, combRatio, chordOver};
+ghost use Rattle.lane.specs.Floats.{_‼_, zero};
+ghost use Rattle.lines.specs.Lines.{isLength};
+ghost use Rattle.teeth.specs.Contracts.{Planned};
 ghost use Rattle.kernels.specs.Tuning.{threeNumbers, djNumbers, rowNumbers, drivenNumbers, combNumbers, bandNumbers};
 ghost use Rattle.kernels.specs.Tuning.{multimodeNumbers, k35Numbers, gainNumbers, numbersOf, tuningOf, tunedOver, keyOf};
 ghost use Rattle.kernels.specs.Tuning.{blendedOf, blendedOver};
 ghost use Rattle.poles.specs.Poles.{padOf};
-ghost use Rattle.kernels.specs.Contracts.{tableWith, Kept, KeptSections, TunedAt, BlendedAt};
+ghost use Rattle.kernels.specs.Contracts.{tableWith, Kept, KeptSections, KeptTeeth, TunedAt, BlendedAt};
 use combs::Comb2;
 use expanders::Expander;
 use expanders::K35;
+use extended::Chord;
 use extended::Settings;
 use filter::Pitch;
 use filter::Ratio;
@@ -132,6 +136,20 @@ fn judged_comb(pitch: Pitch, p: Settings) -> JudgedNumbers
     }
 }
 
+// Each of the teeth judges.
+fn judged_chord(pitch: Pitch, p: Settings) -> JudgedNumbers
+    ensures { λ r. ⌜ (r .numbers ≡ threeNumbers (combRatio pitch p) zero zero) × (r .over ≡ chordOver pitch p) ⌝ }
+{
+    let c = filter::capped_of(pitch, p.reference_ratio);
+    let ratio = c.ratio;
+    let chord = p.chord;
+    let n = teeth::teeth_of(chord) as u32;
+    JudgedNumbers {
+        numbers: three_numbers(ratio.0, 0.0, 0.0),
+        over: n * filter::once(c.over),
+    }
+}
+
 fn judged_gain(code: u32, pitch: Pitch, p: Settings) -> JudgedNumbers
     ensures { λ r. ⌜ (r .numbers ≡ gainNumbers code pitch p) × (r .over ≡ once (overOf pitch (p .«ref_over_rate»))) ⌝ }
 {
@@ -153,6 +171,7 @@ fn numbers_of(code: u32, pitch: Pitch, p: Settings, before: u32) -> JudgedNumber
             over: before,
         },
         9 => judged_comb(pitch, p),
+        13 => judged_chord(pitch, p),
         _ => judged_gain(code, pitch, p),
     }
 }
@@ -204,11 +223,12 @@ pub fn retune(
     over: &mut u32,
     pitch: Pitch,
     reference: Ratio,
+    chord: Chord,
     character: f32,
 )
-    requires { ⌜ Kept code reference (now tuning) (now over) ⌝ }
-    ensures { λ _. ⌜ (now (tuning .exit) ≡ tuningOf code pitch (keyOf reference character))
-        × (now (over .exit) ≡ tunedOver code pitch (keyOf reference character) (now (over .entry))) ⌝ }
+    requires { ⌜ Kept code reference chord (now tuning) (now over) ⌝ }
+    ensures { λ _. ⌜ (now (tuning .exit) ≡ tuningOf code pitch (keyOf reference chord character))
+        × (now (over .exit) ≡ tunedOver code pitch (keyOf reference chord character) (now (over .entry))) ⌝ }
 {
     if is_tuned(tuning, pitch.0, character) {
         return;
@@ -225,6 +245,7 @@ pub fn retune(
             z: 0.0,
             ref_over_rate: reference,
             reference_ratio: reference,
+            chord: chord,
         },
         *over,
     );
@@ -272,4 +293,26 @@ pub fn blend_sections(
     let numbers = next.numbers;
     *blended = numbers;
     *over = next.over;
+}
+
+// Brings the plan of the teeth to a ratio. Only the chord comb (code 13) has teeth.
+pub fn replan(
+    code: u32,
+    plan: &mut [usize; 65],
+    teeth: &mut [f32; 9],
+    len: usize,
+    ratio: f32,
+    chord: Chord,
+)
+    requires { ⌜ (isLength len ≡ true) × (KeptTeeth len chord (now plan) (now teeth)) ⌝ }
+    ensures { λ _. ⌜ (KeptTeeth len chord (now (plan .exit)) (now (teeth .exit)))
+        × (code ≡ 13 → Planned len chord (now (plan .exit)) (now (teeth .exit)) × (now (teeth .exit) ‼ 8 ≡ ratio)) ⌝ }
+{
+    if code != 13 {
+        return;
+    }
+    if same(teeth[8], ratio) {
+        return;
+    }
+    teeth::plan_teeth(len, ratio, chord, plan, teeth);
 }

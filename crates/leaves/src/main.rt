@@ -2,6 +2,7 @@
 // output is the input where every answer is right, bit for bit. A line that starts with `#` is copied; a row that cannot be
 // read gives `?`.
 ghost use Prim.Native.Nat.{_≤_};
+use extended::Chord;
 use filter::Pitch;
 use filter::Ratio;
 use filter::VoiceParams;
@@ -340,6 +341,64 @@ fn read_row(s: &[u8], end: usize, cells: &[f32], out: &mut [u8], at: usize) -> u
     0
 }
 
+// A chord of n teeth, whose offsets stand from the word at `at` on.
+fn chord_at(s: &[u8], at: usize, n: u32) -> Chord {
+    let x = ten(s, at);
+    Chord {
+        count: n,
+        offsets: [x[0], x[1], x[2], x[3], x[4], x[5], x[6], x[7]],
+    }
+}
+
+// Writes the first n taps, each after a blank.
+fn put_taps(out: &mut [u8], at: usize, taps: [f32; 8], n: usize) -> usize {
+    if n == 0 {
+        return at;
+    }
+    if n <= 8 {
+        let p = text::put_byte(out, at, b' ');
+        return put_floats(out, p, &taps[0..n]);
+    }
+    at
+}
+
+// The size of the set of cells that the teeth of the row need, and their taps.
+fn put_chord(out: &mut [u8], at: usize, s: &[u8], cells: &[f32], n: u32) -> usize {
+    let len = words::decimal_at(s, 0, 2, 0) as usize;
+    let cursor = words::decimal_at(s, 0, 3, 0) as usize;
+    let slot = words::decimal_at(s, 0, 4, 0) as usize;
+    let ratio = words::float_at(s, 0, 5);
+    let chord = chord_at(s, words::start(s, 0, 7), n);
+    let mut taps = [0f32; 8];
+    let size = teeth::chord_read(cells, len, cursor, slot, ratio, chord, &mut taps);
+    let p = text::put_decimal(out, at, size as u64);
+    put_taps(out, p, taps, n as usize)
+}
+
+// Whether the words up to `end` are a row of n teeth.
+fn is_chord(s: &[u8], end: usize, n: usize) -> bool {
+    let offsets = words::start(s, 0, 7);
+    (words::start(s, offsets, n) == end)
+        & words::are_decimals(s, 0, 1, 4)
+        & words::are_floats(s, 0, 5, 1)
+        & words::are_floats(s, offsets, 0, n)
+}
+
+// `chord_read` cells len cursor slot ratio n o1 .. on
+fn chord_row(s: &[u8], end: usize, cells: &[f32], out: &mut [u8], at: usize) -> usize {
+    let count = words::decimal_at(s, 0, 1, 0) as usize;
+    let n = words::decimal_at(s, 0, 6, 9);
+    if n > 8 {
+        return 0;
+    }
+    if is_chord(s, end, n as usize) {
+        if count <= cells.len() {
+            return put_chord(out, at, s, &cells[0..count], n as u32);
+        }
+    }
+    0
+}
+
 // A name and the f32 that it takes.
 fn floats_row(s: &[u8], end: usize, name: usize, out: &mut [u8], at: usize) -> usize {
     let first = words::start(s, 0, 1);
@@ -352,13 +411,19 @@ fn floats_row(s: &[u8], end: usize, name: usize, out: &mut [u8], at: usize) -> u
 
 // The rows of other names.
 fn other_row(s: &[u8], end: usize, cells: &[f32], out: &mut [u8], at: usize) -> usize {
-    match words::name_at(b"point table table8 section section8 read", 6, s, 0) {
+    match words::name_at(
+        b"point table table8 section section8 read chord_read",
+        7,
+        s,
+        0,
+    ) {
         0 => point_row(s, end, out, at),
         1 => table_row(s, end, false, out, at),
         2 => table_row(s, end, true, out, at),
         3 => section_row(s, end, false, out, at),
         4 => section_row(s, end, true, out, at),
         5 => read_row(s, end, cells, out, at),
+        6 => chord_row(s, end, cells, out, at),
         _ => 0,
     }
 }

@@ -108,26 +108,19 @@ cell-is len cursor back r a b c e = ap (λ (z : ℕ). z % len) (wrapped cursor b
         → (r + back) % 2 ^ 64 ≡ cursor → r ≡ (cursor + (2 ^ 64 - back)) % 2 ^ 64
     wrapped cursor back r a b c e = omega arith
 
--- neither a few cells on nor a few cells back, with a whole number of turns besides, is a cell the same
-turns : (len a b back s : ℕ) → 0 < back → back < len → a * len + s + back ≡ b * len + s → ⊥
-turns len a b back s p h e =
-    let z : back ≡ 0 = flat-low len a b back 0 h (omega arith) (omega arith) in
-    omega arith
-
-pub cell-other : (len cursor back : ℕ) → isLength len ≡ true → cursor < 2 ^ 64 → 0 < back → back < len → cellOf len cursor back ≢ cursor % len
-unfolding cellOf
-cell-other len cursor back g c p h e =
-    let l = length-of len g in
-    let r : ℕ = (cursor + (2 ^ 64 - back)) % 2 ^ 64 in
-    let x : r / len * len + cursor % len ≡ r = ap (λ (z : ℕ). r / len * len + z) (sym e) ∙ div-add-mod' r len in
+-- the wrapped difference is the cursor's own cell, b less, and whole turns
+pub whole-turns : (len cursor b : ℕ) → isLength len ≡ true → cursor < 2 ^ 64 → b < len → (P : Type 0)
+    → ((k : ℕ) → k * len + cursor % len ≡ (cursor + (2 ^ 64 - b)) % 2 ^ 64 + b → P) → P
+whole-turns len cursor b g c h P f =
+    let t = length-of len g in
     let y : cursor / len * len + cursor % len ≡ cursor = div-add-mod' cursor len in
-    elim (decLe back cursor) [
-      | yes u ↦ turns len (r / len) (cursor / len) back (cursor % len) p h (ap (λ (z : ℕ). z + back) x ∙ before cursor back u c ∙ sym y)
-      | no u ↦
-          turns len (r / len) (cursor / len + 2 ^ 64 / len) back (cursor % len) p h
-          (ap (λ (z : ℕ). z + back) x
-          ∙ after cursor back (omega arith) (omega arith) c
-          ∙ sum (cursor / len) (2 ^ 64 / len) len (cursor % len) cursor y (l .divides))
+    let q : ℕ = cursor / len in
+    let d : ℕ = 2 ^ 64 / len in
+    let l = t .least in
+    let m = t .most in
+    elim (decLe b cursor) [
+      | yes u ↦ f q (y ∙ sym (before cursor b u c))
+      | no u ↦ f (q + d) (sym (sum q d len (cursor % len) cursor y (t .divides)) ∙ sym (after cursor b (omega arith) (omega arith) c))
     ]
   where
     before : (cursor back : ℕ) → back ≤ cursor → cursor < 2 ^ 64 → (cursor + (2 ^ 64 - back)) % 2 ^ 64 + back ≡ cursor
@@ -138,3 +131,16 @@ cell-other len cursor back g c p h e =
 
     sum : (a q len s cursor : ℕ) → a * len + s ≡ cursor → q * len ≡ 2 ^ 64 → cursor + 2 ^ 64 ≡ (a + q) * len + s
     sum a q len s cursor y d = omega arith
+
+-- neither a few cells on nor a few cells back, with a whole number of turns besides, is a cell the same
+turns : (len a b back s : ℕ) → 0 < back → back < len → a * len + s + back ≡ b * len + s → ⊥
+turns len a b back s p h e =
+    let z : back ≡ 0 = flat-low len a b back 0 h (omega arith) (omega arith) in
+    omega arith
+
+pub cell-other : (len cursor back : ℕ) → isLength len ≡ true → cursor < 2 ^ 64 → 0 < back → back < len → cellOf len cursor back ≢ cursor % len
+unfolding cellOf
+cell-other len cursor back g c p h e =
+    let r : ℕ = (cursor + (2 ^ 64 - back)) % 2 ^ 64 in
+    let x : r / len * len + cursor % len ≡ r = ap (λ (z : ℕ). r / len * len + z) (sym e) ∙ div-add-mod' r len in
+    whole-turns len cursor back g c h ⊥ (λ k t. turns len (r / len) k back (cursor % len) p h (ap (λ (z : ℕ). z + back) x ∙ sym t))

@@ -71,7 +71,7 @@ pub fn ring_len(rate: f32) -> usize
 
 // A power of two from 1,024 to 65,536, and a slot that ends within `have` cells. The division cannot wrap, where the slot's
 // end could.
-fn is_view(len: usize, slot: usize, have: usize) -> bool
+pub fn is_view(len: usize, slot: usize, have: usize) -> bool
     ensures { λ r. ⌜ r ≡ isView len slot have ⌝ }
 {
     match len {
@@ -81,7 +81,7 @@ fn is_view(len: usize, slot: usize, have: usize) -> bool
 }
 
 // The delay clamped to MIN_DELAY .. len - 3; a NaN fails the first test.
-fn held(len: usize, delay: f32) -> f32
+pub fn held(len: usize, delay: f32) -> f32
     requires { ⌜ (1024 ≤ len) × (len ≤ 65536) ⌝ }
     ensures { λ r. ⌜ r ≡ held len delay ⌝ }
 {
@@ -106,7 +106,7 @@ pub fn hermite(newer: f32, p0: f32, p1: f32, older: f32, t: f32) -> f32
 }
 
 // The whole part of a delay, by its own bits: the 24 digits without those of the fraction.
-fn whole_part(d: f32) -> u32
+pub fn whole_part(d: f32) -> u32
     requires { ⌜ (1 ≤ wholePart d) × (wholePart d ≤ 65536) ⌝ }
     ensures { λ r. ⌜ r ≡ wholePart d ⌝ }
 {
@@ -115,7 +115,7 @@ fn whole_part(d: f32) -> u32
 }
 
 // The cell `back` frames before the cursor, of the slot's ring.
-fn cell_at(buf: &[f32], len: usize, cursor: usize, slot: usize, back: usize) -> f32
+pub fn cell_at(buf: &[f32], len: usize, cursor: usize, slot: usize, back: usize) -> f32
     requires { ⌜ (0 < len) × (slot * len + len ≤ length (now buf)) ⌝ }
     ensures { λ r. ⌜ r ≡ getD (piece len slot (now (buf .entry))) (cellOf len cursor back) nan ⌝ }
 {

@@ -12,8 +12,8 @@ use Rattle.places.specs.Places.{count, placeOf, blocksIn, headIn, soundFile, is
 use Rattle.places.specs.Sole.{ifOne, soleOf}
 use Rattle.places.specs.declared.Place.{Place}
 use Rattle.places.specs.declared.Place.the-variants.{At, Not}
-use Rattle.setups.specs.Setup.{setupCheckOf}
-use Rattle.setups.specs.Parked.{setupWord, soloIn, voicesIn, cursorIn, headCheck}
+use Rattle.setups.specs.Setup.{codesCheckOf}
+use Rattle.setups.specs.Parked.{setupWord, soloIn, voicesIn, cursorIn, headCheck, parkedCodes, soloCheck}
 use Rattle.checks.specs.declared.Setup.{Setup}
 use Rattle.checks.specs.declared.Verdict.the-variants.{Fine}
 use Rattle.checks.specs.Setup.{soloOf}
@@ -42,30 +42,30 @@ voices-is : (file : List ℕ) → setupIn file .voices ≡ voicesIn file
 unfolding setupIn
 voices-is file = refl
 
-pub setup-checked : (file : List ℕ) (s : Setup) → s ≡ setupIn file → setupCheckOf (soloOf s) (s .voices) ≡ setupCheckOf (soloIn file) (voicesIn file)
-setup-checked file s e = ap (λ (x : Setup). setupCheckOf (soloOf x) (x .voices)) e ∙ (λ t. setupCheckOf (solo-is file t) (voices-is file t))
+pub setup-checked : (file : List ℕ) (s : Setup) → s ≡ setupIn file → codesCheckOf parkedCodes (soloOf s) (s .voices) ≡ soloCheck file
+setup-checked file s e = ap (λ (x : Setup). codesCheckOf parkedCodes (soloOf x) (x .voices)) e ∙ (λ t. codesCheckOf parkedCodes (solo-is file t) (voices-is file t))
 
 pub unclean : (file : List ℕ) (w : ℕ) → w ≡ setupWord file 3 → 1 < w → setupVerdict file ≡ refused 13
 unfolding setupVerdict check _then_
-unclean file w e h = ap (λ (t : Bool). check t 13 then setupCheckOf (soloIn file) (voicesIn file)) (ap (λ (x : ℕ). leb x 1) (sym e) ∙ lt-leb w 1 h)
+unclean file w e h = ap (λ (t : Bool). check t 13 then soloCheck file) (ap (λ (x : ℕ). leb x 1) (sym e) ∙ lt-leb w 1 h)
 
-clean : (file : List ℕ) (w : ℕ) → w ≡ setupWord file 3 → w ≤ 1 → setupVerdict file ≡ setupCheckOf (soloIn file) (voicesIn file)
+clean : (file : List ℕ) (w : ℕ) → w ≡ setupWord file 3 → w ≤ 1 → setupVerdict file ≡ soloCheck file
 unfolding setupVerdict check _then_
-clean file w e h = ap (λ (t : Bool). check t 13 then setupCheckOf (soloIn file) (voicesIn file)) (ap (λ (x : ℕ). leb x 1) (sym e) ∙ le-leb w 1 h)
+clean file w e h = ap (λ (t : Bool). check t 13 then soloCheck file) (ap (λ (x : ℕ). leb x 1) (sym e) ∙ le-leb w 1 h)
 
-pub setup-says : (file : List ℕ) (w : ℕ) (s : Setup) (v : Check) → w ≡ setupWord file 3 → w ≤ 1 → s ≡ setupIn file → setupCheckOf (soloOf s) (s .voices) ≡ v → setupVerdict file ≡ v
+pub setup-says : (file : List ℕ) (w : ℕ) (s : Setup) (v : Check) → w ≡ setupWord file 3 → w ≤ 1 → s ≡ setupIn file → codesCheckOf parkedCodes (soloOf s) (s .voices) ≡ v → setupVerdict file ≡ v
 setup-says file w s v e h d u = clean file w e h ∙ sym (setup-checked file s d) ∙ u
 
 -- ---- 12, and 13 of the setup's blocks
 
 pub damaged : (file : List ℕ) (r : Bool) → r ≡ eqb (length file % 512) 0 && soundFile file → not r ≡ true → headVerdict file ≡ refused 12
 unfolding headVerdict check _then_
-damaged file r e h = ap (λ (t : Bool). check t 12 then headCheck file then setupCheckOf (soloIn file) (voicesIn file)) (sym e ∙ not-true r h)
+damaged file r e h = ap (λ (t : Bool). check t 12 then headCheck file then soloCheck file) (sym e ∙ not-true r h)
 
 sound : (file : List ℕ) (r : Bool) → r ≡ eqb (length file % 512) 0 && soundFile file → not r ≡ false
-    → headVerdict file ≡ headCheck file then setupCheckOf (soloIn file) (voicesIn file)
+    → headVerdict file ≡ headCheck file then soloCheck file
 unfolding headVerdict check _then_
-sound file r e h = ap (λ (t : Bool). check t 12 then headCheck file then setupCheckOf (soloIn file) (voicesIn file)) (sym e ∙ not-false r h)
+sound file r e h = ap (λ (t : Bool). check t 12 then headCheck file then soloCheck file) (sym e ∙ not-false r h)
 
 -- `sole` answers At just where a head stands once
 pub not-once : (file : List ℕ) (head : ℕ) (r : Place) → r ≡ soleOf file head → r ≡ Not → isOnce file head ≡ false
@@ -97,7 +97,7 @@ module _ (file : List ℕ) (r : Bool) (e : r ≡ eqb (length file % 512) 0 && so
   unfolding check _then_
   first-missing p d n =
       sound file r e h
-      ∙ ap (λ (t : Bool). check (t && isOnce file (headOf 1 0 1) && leb (setupWord file 3) 1) 13 then setupCheckOf (soloIn file) (voicesIn file))
+      ∙ ap (λ (t : Bool). check (t && isOnce file (headOf 1 0 1) && leb (setupWord file 3) 1) 13 then soloCheck file)
       (ap (isOnce file) first-head ∙ not-once file 1 p d n)
 
   module _ (a : ℕ) (p : Place) (d : p ≡ soleOf file 1) (n : p ≡ At a) where
@@ -108,7 +108,7 @@ module _ (file : List ℕ) (r : Bool) (e : r ≡ eqb (length file % 512) 0 && so
     unfolding check _then_
     second-missing q u m =
         sound file r e h
-        ∙ (λ t. check (once0 t && (ap (isOnce file) second-head ∙ not-once file 65537 q u m) t && leb (setupWord file 3) 1) 13 then setupCheckOf (soloIn file) (voicesIn file))
+        ∙ (λ t. check (once0 t && (ap (isOnce file) second-head ∙ not-once file 65537 q u m) t && leb (setupWord file 3) 1) 13 then soloCheck file)
 
     module _ (b : ℕ) (q : Place) (u : q ≡ soleOf file 65537) (m : q ≡ At b) where
       once1 : isOnce file (headOf 1 0 1) ≡ true
@@ -124,4 +124,4 @@ module _ (file : List ℕ) (r : Bool) (e : r ≡ eqb (length file % 512) 0 && so
 
       pub head-is : headVerdict file ≡ setupVerdict file
       unfolding setupVerdict
-      head-is = sound file r e h ∙ (λ t. check (once0 t && once1 t && leb (setupWord file 3) 1) 13 then setupCheckOf (soloIn file) (voicesIn file))
+      head-is = sound file r e h ∙ (λ t. check (once0 t && once1 t && leb (setupWord file 3) 1) 13 then soloCheck file)

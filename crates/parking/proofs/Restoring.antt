@@ -17,8 +17,8 @@ use Rattle.files.specs.File.{parkedTargets, parkedRecord}
 use Rattle.rows.specs.Back.{parts-hold}
 use Rattle.files.specs.Asks.{Ready, Restored}
 use Rattle.setups.specs.Setup.{setupCheckOf}
-use Rattle.setups.specs.Accepted.{SetupAccepted, setup-accepted}
-use Rattle.setups.specs.Parked.{soloIn, voicesIn, slotsIn, ringIn, cursorIn, bankIn, damagedCheck, headCheck, blocksCheck, fileVerdict, restoreVerdict}
+use Rattle.setups.specs.Accepted.{SetupAccepted, setup-accepted, file-accepted}
+use Rattle.setups.specs.Parked.{soloIn, voicesIn, slotsIn, ringIn, cursorIn, bankIn, damagedCheck, headCheck, soloCheck, blocksCheck, fileVerdict, restoreVerdict}
 use Rattle.checks.specs.declared.Setup.{Setup}
 use Rattle.checks.specs.declared.Verdict.the-variants.{Fine, Refused}
 use Rattle.checks.specs.Setup.{soloOf, engine}
@@ -55,15 +55,15 @@ module _ (file pos : List ℕ) (h : Held) (f : FileRead file pos h) (tg rs ds : 
     setup-is : h .setup ≡ setupIn file
     setup-is = held-setup (fileVerdict file) file h (f .held) file-fine
 
-    passed : (setupCheckOf (soloIn file) (voicesIn file) ≡ fine) × (blocksCheck file ≡ fine)
+    passed : (soloCheck file ≡ fine) × (blocksCheck file ≡ fine)
     unfolding fileVerdict
     passed =
-        let a = then-fine (damagedCheck file) (headCheck file then setupCheckOf (soloIn file) (voicesIn file) then blocksCheck file) file-fine in
-        let b = then-fine (headCheck file) (setupCheckOf (soloIn file) (voicesIn file) then blocksCheck file) (a .1) in
-        then-fine (setupCheckOf (soloIn file) (voicesIn file)) (blocksCheck file) (b .1)
+        let a = then-fine (damagedCheck file) (headCheck file then soloCheck file then blocksCheck file) file-fine in
+        let b = then-fine (headCheck file) (soloCheck file then blocksCheck file) (a .1) in
+        then-fine (soloCheck file) (blocksCheck file) (b .1)
 
     checked : setupCheckOf (soloOf (h .setup)) (h .setup .voices) ≡ fine
-    checked = setup-checked file (h .setup) setup-is ∙ passed .0
+    checked = file-accepted (soloOf (h .setup)) (h .setup .voices) (setup-checked file (h .setup) setup-is ∙ passed .0)
 
     pub accepted : SetupAccepted (soloOf (h .setup)) (h .setup .voices)
     accepted = setup-accepted (soloOf (h .setup)) (h .setup .voices) checked

@@ -12,9 +12,9 @@ use Rattle.voices.specs.Accepted.{then-fine}
 use Rattle.blocks.specs.Blocks.{partsOf, total}
 use Rattle.places.specs.Places.{placeOf, blocksIn, numberAt, isWhole}
 use Rattle.places.specs.Survey.{Small, Surveyed}
-use Rattle.setups.specs.Setup.{setupCheckOf}
-use Rattle.setups.specs.Accepted.{SetupAccepted, setup-accepted}
-use Rattle.setups.specs.Parked.{soloIn, voicesIn, slotsIn, ringIn, damagedCheck, headCheck, blocksCheck, fileVerdict}
+use Rattle.setups.specs.Setup.{codesCheckOf}
+use Rattle.setups.specs.Accepted.{SetupAccepted, codes-accepted}
+use Rattle.setups.specs.Parked.{voicesIn, slotsIn, ringIn, damagedCheck, headCheck, parkedCodes, soloCheck, blocksCheck, fileVerdict}
 use Rattle.checks.specs.declared.Setup.{Setup}
 use Rattle.checks.specs.declared.Verdict.the-variants.{Fine, Refused}
 use Rattle.checks.specs.Setup.{soloOf}
@@ -31,7 +31,7 @@ pub file-then : (file : List ℕ) → fileVerdict file ≡ headVerdict file then
 unfolding fileVerdict headVerdict
 file-then file = go (damagedCheck file) (headCheck file)
   where
-    go : (d h : Check) → d then h then setupCheckOf (soloIn file) (voicesIn file) then blocksCheck file ≡ (d then h then setupCheckOf (soloIn file) (voicesIn file)) then blocksCheck file
+    go : (d h : Check) → d then h then soloCheck file then blocksCheck file ≡ (d then h then soloCheck file) then blocksCheck file
     go (refused k) h = unfold _then_ in refl
     go fine (refused k) = unfold _then_ in refl
     go fine fine = unfold _then_ in refl
@@ -68,15 +68,15 @@ module _ (file : List ℕ) (h : Held) (e : h ≡ heldBy (headVerdict file) file)
     setup-is : h .setup ≡ setupIn file
     setup-is = held-setup (headVerdict file) file h e head-fine
 
-    checked : setupCheckOf (soloOf (h .setup)) (h .setup .voices) ≡ fine
+    checked : codesCheckOf parkedCodes (soloOf (h .setup)) (h .setup .voices) ≡ fine
     unfolding headVerdict
     checked =
         setup-checked file (h .setup) setup-is
-        ∙ then-fine (headCheck file) (setupCheckOf (soloIn file) (voicesIn file))
-        (then-fine (damagedCheck file) (headCheck file then setupCheckOf (soloIn file) (voicesIn file)) head-fine .1) .1
+        ∙ then-fine (headCheck file) (soloCheck file)
+        (then-fine (damagedCheck file) (headCheck file then soloCheck file) head-fine .1) .1
 
     pub known : SetupAccepted (soloOf (h .setup)) (h .setup .voices)
-    known = setup-accepted (soloOf (h .setup)) (h .setup .voices) checked
+    known = codes-accepted parkedCodes (soloOf (h .setup)) (h .setup .voices) checked
 
     module _ (len : ℕ) (l : len ≡ ringLen (h .setup .rate)) where
       abbrev v : ℕ

@@ -2,11 +2,12 @@
 use mathlib.Core.Path.{_≡_, sym, ap, _∙_, subst}
 use Prim.Native.Nat.{ℕ, _+_, _*_, _/_}
 use native.Mathlib.Omega.{arith}
-use mathlib.Core.Bool.{true, not}
+use mathlib.Core.Bool.{true, not, _&&_}
 use mathlib.Core.List.{List}
+use lib.Dec.{eqb}
 use lib.ListN.{length}
 use Rattle.lines.specs.Lines.{ringLen}
-use Rattle.voices.specs.Calls.{Check, fine, refused, _then_, Bank, isFlat, storeCheck, fileLength, fileCheck, axesCheck}
+use Rattle.voices.specs.Calls.{Check, fine, refused, _then_, Bank, isFlat, storeCheck, fileLength, fileCheck, wordsCheck}
 use Rattle.voices.specs.Accepted.{check-fine, then-fine, and-true}
 use borrow.Author.Tests.{eqb-true, not-true}
 use Rattle.blocks.specs.Blocks.{partsOf}
@@ -29,21 +30,25 @@ module _ (s : Setup) (b : Bank) (list : List ℕ) (ok : parkVerdict s b list ≡
   setup-fine : setupCheckOf (soloOf s) (s .voices) ≡ fine
   setup-fine = then-fine _ _ ok .0
 
-  after-setup : storeCheck (engine s) (s .voices) b then fileCheck (engine s) (s .voices) (length list) then axesCheck (engine s) (s .voices) b ≡ fine
+  after-setup : storeCheck (engine s) (s .voices) b then fileCheck (engine s) (s .voices) (length list) then wordsCheck (engine s) (s .voices) b ≡ fine
   after-setup = then-fine (setupCheckOf (soloOf s) (s .voices)) _ ok .1
 
   store-fine : storeCheck (engine s) (s .voices) b ≡ fine
   store-fine = then-fine _ _ after-setup .0
 
-  after-store : fileCheck (engine s) (s .voices) (length list) then axesCheck (engine s) (s .voices) b ≡ fine
+  after-store : fileCheck (engine s) (s .voices) (length list) then wordsCheck (engine s) (s .voices) b ≡ fine
   after-store = then-fine (storeCheck (engine s) (s .voices) b) _ after-setup .1
 
   as-long : length list ≡ fileLength (engine s) (s .voices)
   as-long = eqb-true _ _ (check-fine _ _ (then-fine _ _ after-store .0))
 
-  -- two axes, and no bit of z set
-  flat : (not (s .table .three) ≡ true) × (isFlat (s .channels) (s .voices) b ≡ true)
+  -- a setup that a file has words for, and no bit of z set
+  flat : (not (s .table .three) && not (eqb (s .code) 13) ≡ true) × (isFlat (s .channels) (s .voices) b ≡ true)
   flat = and-true _ _ (check-fine _ _ (then-fine (fileCheck (engine s) (s .voices) (length list)) _ after-store .1))
+
+  -- two axes, and a code without a chord
+  plain : (not (s .table .three) ≡ true) × (not (eqb (s .code) 13) ≡ true)
+  plain = and-true _ _ (flat .0)
 
   pub known : SetupAccepted (soloOf s) (s .voices)
   known = setup-accepted (soloOf s) (s .voices) setup-fine
@@ -75,4 +80,4 @@ module _ (s : Setup) (b : Bank) (list : List ℕ) (ok : parkVerdict s b list ≡
 
       pub holds : F32Setup (soloOf s) → F32Bank b → Holds file (soloOf s) (s .voices) b
       holds fs fb = subst (λ (f : List ℕ). Holds f (soloOf s) (s .voices) b) (sym is-parked)
-          (parked-holds (soloOf s) (s .voices) b setup-fine store-fine (not-true _ (flat .0)) (flat .1) fs fb)
+          (parked-holds (soloOf s) (s .voices) b setup-fine store-fine (not-true _ (plain .0)) (not-true _ (plain .1)) (flat .1) fs fb)

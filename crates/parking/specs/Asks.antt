@@ -15,8 +15,7 @@ use Rattle.file_words.specs.Words.{floatOf}
 use Rattle.blocks.specs.Blocks.{headOf, partsOf, total}
 use Rattle.places.specs.Places.{pick, placeOf, blocksIn, headIn, isOnce, numberAt}
 use Rattle.pole_zero.specs.declared.Table.{Table}
-use Rattle.setups.specs.Setup.{setupCheckOf}
-use Rattle.setups.specs.Parked.{setupWord, soloIn, voicesIn, slotsIn, ringIn, damagedCheck, headCheck, fileVerdict}
+use Rattle.setups.specs.Parked.{setupWord, voicesIn, slotsIn, ringIn, damagedCheck, headCheck, soloCheck, fileVerdict}
 use Rattle.parking.specs.declared.Held.{Held}
 use Rattle.parking.specs.Parking.{heldBy}
 
@@ -42,10 +41,10 @@ tableIn file = record { active = setupWord file 8; three = false; sections = sec
 
 -- the checks from the clean word to 5, and those up to 5
 unfoldable pub setupVerdict : List ℕ → Check
-setupVerdict file = check (leb (setupWord file 3) 1) 13 then setupCheckOf (soloIn file) (voicesIn file)
+setupVerdict file = check (leb (setupWord file 3) 1) 13 then soloCheck file
 
 unfoldable pub headVerdict : List ℕ → Check
-headVerdict file = damagedCheck file then headCheck file then setupCheckOf (soloIn file) (voicesIn file)
+headVerdict file = damagedCheck file then headCheck file then soloCheck file
 
 -- a table of places in which nothing is entered
 pub record ClearTable (pos : List ℕ) : Type 0 where

@@ -1,4 +1,4 @@
--- What park, restore and their companions promise (document 02, C-12, C-17), over the file of setups/specs/Parked. Definitions only.
+-- What park, restore and their companions promise (document 02, C-12, C-17, C-18), over the file of setups/specs/Parked. Definitions only.
 use mathlib.Core.Path.{_≡_}
 use mathlib.Core.Bool.{false}
 use mathlib.Core.List.{List, []}
@@ -8,7 +8,7 @@ use lib.ListN.{length, replicate}
 use Rattle.lane.specs.Floats.{zero}
 use Rattle.voices.specs.Calls.{Check, fine, refused, Bank, callPark, fileLength, verdict, call}
 use Rattle.setups.specs.Setup.{setupCheckOf}
-use Rattle.setups.specs.Parked.{parkedFile, soloIn, voicesIn, cursorIn, bankIn, restoreVerdict, Holds}
+use Rattle.setups.specs.Parked.{parkedFile, noChord, soloIn, voicesIn, cursorIn, bankIn, restoreVerdict, Holds}
 use Rattle.checks.specs.declared.Setup.{Setup}
 use Rattle.checks.specs.Setup.{soloOf, engine}
 use Rattle.checks.specs.declared.Verdict.the-variants.{Fine, Refused}
@@ -53,6 +53,7 @@ setupIn file = record {
   channels = soloIn file .channels;
   clean = soloIn file .clean;
   table = soloIn file .table;
+  chord = soloIn file .chord;
 }
 
 -- the setup in a refused file's place
@@ -65,6 +66,7 @@ blankSetup = record {
   channels = 0;
   clean = false;
   table = record { active = 0; three = false; sections = replicate 320 zero; gain = zero };
+  chord = noChord;
 }
 
 -- the answer: setup and cursor, or the refusal's number

@@ -1,5 +1,5 @@
--- What follows from the contracts of park and restore alone (document 02, C-12, C-17): the round trip, blocks in any order, and what demand 3 asks of a restore
--- in a list of calls. The statements, then their proofs from setups/specs/Back and AnyOrder. Assumes nothing.
+-- What follows from the contracts of park and restore alone (document 02, C-12, C-17, C-18): the round trip, blocks in any order, and what demand 3 asks of
+-- a restore in a list of calls. The statements, then their proofs from setups/specs/Back and AnyOrder. Assumes nothing.
 use mathlib.Core.Path.{_≡_, refl, sym, ap, _∙_}
 use mathlib.Core.List.{List, _∷_}
 use Prim.Native.Nat.{ℕ}
@@ -7,7 +7,7 @@ use lib.Ieee.{Float}
 use Rattle.lines.specs.Lines.{ringLen}
 use Rattle.voices.specs.Calls.{Check, fine, refused, _then_, Bank, Run, refusedCall, kept, callRestore, storeCheck, storeCheckOf, perform, call, Returned}
 use Rattle.places.specs.ByHead.{Shuffled}
-use Rattle.setups.specs.Setup.{heardTable, heard}
+use Rattle.setups.specs.Setup.{heardTable, heardChord, heard}
 use Rattle.setups.specs.Parked.{soloIn, voicesIn, cursorIn, bankIn, restoreVerdict}
 use Rattle.setups.specs.Parked.{Holds}
 use Rattle.setups.specs.AnyOrder.{any-order}
@@ -23,7 +23,7 @@ use Rattle.parking.specs.Parking.{parkVerdict, ParkDoes, setupIn, heldBy
 
 -- ---- the round trip
 
--- a setup as it is heard (C-17): of a two-axis table the z = 1 face is ignored, here 0
+-- a setup as it is heard: of a two-axis table the z = 1 face is ignored (C-17), of a code but 13 the chord (C-18), here 0
 abbrev pub heardSetup : Setup → Setup
 heardSetup s = record {
   code = s .code;
@@ -33,6 +33,7 @@ heardSetup s = record {
   channels = s .channels;
   clean = s .clean;
   table = heardTable (s .table);
+  chord = heardChord (s .code) (s .chord);
 }
 
 -- the setup s as it is heard, which has the same engine, and the bank b, from restore's answer and lists
@@ -100,6 +101,7 @@ setup-same file s e v = λ t. record {
   channels = e t .channels;
   clean = e t .clean;
   table = e t .table;
+  chord = e t .chord;
 }
 
 held-fine : (v : Check) (file : List ℕ) (lent : Bank) → v ≡ fine → (heldBy v file ≡ heldBy fine file) × (restoredBy v file lent ≡ bankIn file)
@@ -140,6 +142,7 @@ same-restored file other sh lent r q tg rs ds tg' rs' ds' d p =
               channels = f .setup t .channels;
               clean = f .setup t .clean;
               table = f .setup t .table;
+              chord = f .setup t .chord;
             };
             cursor = f .bank t .cursor;
           }),

@@ -11,7 +11,7 @@ ghost use Rattle.voices.specs.Calls.{refused};
 ghost use Rattle.rows.specs.Back.{F32s};
 ghost use Rattle.setups.specs.Back.{F32Setup};
 ghost use Rattle.places.specs.Places.{soundFile};
-ghost use Rattle.setups.specs.Parked.{cleanWord, setupWords, setupWord, cursorIn, fileVerdict};
+ghost use Rattle.setups.specs.Parked.{cleanWord, setupWords, noChord, setupWord, cursorIn, fileVerdict};
 ghost use Rattle.checks.specs.Setup.{soloOf};
 ghost use Rattle.checks.specs.Checks.{bankOf};
 ghost use Rattle.parking.specs.Parking.{parkLength, ParkDoes, setupIn, heldBy, RestoreDoes};
@@ -19,6 +19,7 @@ ghost use Rattle.parking.specs.Asks.{wordFrom, wordsFrom, SetupAt, secti
 use bank::Answer;
 use checks::Setup;
 use checks::Verdict;
+use extended::Chord;
 use places::Place;
 use places::Sizes;
 use pole_zero::Table;
@@ -187,6 +188,16 @@ fn read_table(file: &[u8], a: usize, b: usize) -> Table
     }
 }
 
+// A file has no words for a chord (C-18).
+fn no_chord() -> Chord
+    ensures { λ r. ⌜ r ≡ noChord ⌝ }
+{
+    Chord {
+        count: 0,
+        offsets: [0.0; 8],
+    }
+}
+
 fn read_cursor(file: &[u8], a: usize, b: usize) -> usize
     requires { ⌜ SetupAt (now file) a b ⌝ }
     ensures { λ r. ⌜ r ≡ cursorIn (now (file .entry)) ⌝ }
@@ -213,6 +224,7 @@ fn read_setup(file: &[u8], a: usize, b: usize) -> Setup
         channels: channels,
         clean: clean,
         table: table,
+        chord: no_chord(),
     }
 }
 
@@ -240,6 +252,7 @@ fn refused_file(number: u32) -> Held
         channels: 0,
         clean: false,
         table: table,
+        chord: no_chord(),
     };
     Held {
         verdict: Verdict::Refused(number),
@@ -258,7 +271,7 @@ fn is_sound(file: &[u8]) -> bool
     places::sound_file(file)
 }
 
-// 13 of the clean word, then the setup's 1 to 5.
+// 13 of the clean word, then the setup's 1 to 5, where 12 is the highest code (C-18).
 fn read_at(file: &[u8], a: usize, b: usize) -> Held
     requires { ⌜ SetupAt (now file) a b ⌝ }
     ensures { λ r. ⌜ r ≡ heldBy (setupVerdict (now (file .entry))) (now (file .entry)) ⌝ }
@@ -267,7 +280,7 @@ fn read_at(file: &[u8], a: usize, b: usize) -> Held
         return refused_file(13);
     }
     let setup = read_setup(file, a, b);
-    let checked = checks::setup_check(setup);
+    let checked = checks::codes_check(setup, 12);
     if let Verdict::Refused(n) = checked {
         return refused_file(n);
     }

@@ -7,20 +7,22 @@ use lib.Ieee.{Float}
 use Rattle.lane.specs.Floats.{_‼_}
 use Rattle.filter.specs.declared.Pitch.{Pitch}
 use Rattle.filter.specs.Voice.{CHARACTER}
+use Rattle.extended.specs.declared.Chord.{Chord}
 use Rattle.extended.specs.declared.Settings.{Settings}
 use Rattle.extended.specs.Extended.{settingsAt}
 use Rattle.poles.specs.Poles.{padOf}
 use Rattle.kernels.specs.Kernels.{overCount}
 use Rattle.kernels.specs.Tuning.{tuningOf, tunedOver, keyOf, blendedOf, blendedOver}
-use Rattle.kernels.specs.Contracts.{KeptSections, Tuned}
-use Rattle.kernels.specs.Keeping.{key-numbers, key-over, over-is, sections-pass, kept, blended-at, blended-kept}
+use Rattle.kernels.specs.Contracts.{KeptSections, KeptTeeth, PlannedAt, Tuned}
+use Rattle.kernels.specs.Keeping.{key-numbers, key-over, ratio-is, over-is, sections-pass, kept, blended-at, blended-kept}
+use Rattle.teeth.specs.Contracts.{Planned}
 use Rattle.run.specs.declared.Controls.{Controls}
 use Rattle.run.specs.declared.Structure.{Structure}
 use Rattle.run.specs.Run.{settingsOf}
 use Rattle.run.specs.Contracts.{tableFor, Keeps}
 
 module _ (m : Structure) (sections params : List Float) (at : Controls) (p : Settings) (e : p ≡ settingsOf (m .k) params at) where
-  key-settings : (pitch : Pitch) → tuningOf (m .code) pitch (keyOf (m .k .«ref_over_rate») (params ‼ CHARACTER)) ≡ tuningOf (m .code) pitch p
+  key-settings : (pitch : Pitch) → tuningOf (m .code) pitch (keyOf (m .k .«ref_over_rate») (m .k .chord) (params ‼ CHARACTER)) ≡ tuningOf (m .code) pitch p
   unfolding settingsAt
   key-settings pitch = key-numbers (m .code) pitch (settingsOf (m .k) params at) refl ∙ ap (tuningOf (m .code) pitch) (sym e)
 
@@ -28,8 +30,12 @@ module _ (m : Structure) (sections params : List Float) (at : Controls) (p : Set
   unfolding settingsAt
   reference-is = ap (λ (q : Settings). q .«ref_over_rate») e
 
+  chord-is : p .chord ≡ m .k .chord
+  unfolding settingsAt
+  chord-is = ap (λ (q : Settings). q .chord) e
+
   abbrev key : Settings
-  key = keyOf (m .k .«ref_over_rate») (params ‼ CHARACTER)
+  key = keyOf (m .k .«ref_over_rate») (m .k .chord) (params ‼ CHARACTER)
 
   same-over : (pitch : Pitch) (o : ℕ) → tunedOver (m .code) pitch key o ≡ tunedOver (m .code) pitch p o
   unfolding settingsAt
@@ -56,11 +62,19 @@ module _ (m : Structure) (sections params : List Float) (at : Controls) (p : Set
       pub judged : o2 ≡ overCount (m .code) (tableFor m sections) pitch p
       judged = over-is (m .code) (tableFor m sections) pitch p key o o1 o2 e1 (same-over pitch o) e2
 
+      -- the plan is that of the pitch and the settings
+      pub planned-at : (len : ℕ) (plan : List ℕ) (teeth : List Float)
+          → (m .code ≡ 13 → Planned len (m .k .chord) plan teeth × (teeth ‼ 8 ≡ tuning ‼ 0)) → PlannedAt (m .code) len pitch p plan teeth
+      planned-at len plan teeth h k =
+          (subst (λ (q : Chord). Planned len q plan teeth) (sym chord-is) (h k .0), h k .1 ∙ ratio-is (m .code) tuning pitch p (tuned ∙ key-settings pitch) k)
+
       -- and all are kept
-      pub keeps : KeptSections (m .code) (tableFor m sections) (m .k .«ref_over_rate») before o → Keeps m sections tuning blended o2
+      pub keeps : (len : ℕ) (plan : List ℕ) (teeth : List Float) → KeptTeeth len (m .k .chord) plan teeth
+          → KeptSections (m .code) (tableFor m sections) (m .k .«ref_over_rate») before o → Keeps m len sections tuning blended o2 plan teeth
       unfolding blendedOver
-      keeps h = record {
-        numbers = kept (m .code) (m .k .«ref_over_rate») pitch (params ‼ CHARACTER) tuning _ o o1 o2 tuned e1 e2;
+      keeps len plan teeth t h = record {
+        numbers = kept (m .code) (m .k .«ref_over_rate») (m .k .chord) pitch (params ‼ CHARACTER) tuning _ o o1 o2 tuned e1 e2;
         blends = subst (λ r. KeptSections (m .code) (tableFor m sections) r blended o2) reference-is
             (unfold blendedOver in blended-kept (m .code) (tableFor m sections) pitch p before blended brought o1 o2 (before-blend before h) e2);
+        planned = t;
       }

@@ -12,7 +12,7 @@ use Rattle.filter.specs.Voice.{«MORPH_Z»}
 use Rattle.lines.specs.Ring.{cellsAt, withCells}
 use Rattle.pole_zero.specs.declared.Table.{Table}
 use Rattle.kernels.specs.Kernels.{Kernel}
-use Rattle.kernels.specs.Contracts.{Kept, KeptSections}
+use Rattle.kernels.specs.Contracts.{Kept, KeptSections, KeptTeeth}
 use Rattle.voices.specs.Calls.{smoothedWidth, targetsWidth, statesWidth, Tick}
 use Rattle.run.specs.declared.Controls.{Controls}
 use Rattle.run.specs.declared.FrameInput.{FrameInput}
@@ -25,10 +25,11 @@ use Rattle.peak.specs.Running.{settledOf}
 abbrev pub tableFor : Structure → (sections : List Float) → Table
 tableFor m sections = record { active = m .active; three = m .three; sections = sections; gain = m .gain }
 
--- what is kept from frame to frame is right for the structure and the table's sections
-pub record Keeps (m : Structure) (sections tuning blended : List Float) (over : ℕ) : Type 0 where
-  pub numbers : Kept (m .code) (m .k .«ref_over_rate») tuning over
+-- what is kept from frame to frame is right for the structure, the ring's length and the table's sections
+pub record Keeps (m : Structure) (len : ℕ) (sections tuning blended : List Float) (over : ℕ) (plan : List ℕ) (teeth : List Float) : Type 0 where
+  pub numbers : Kept (m .code) (m .k .«ref_over_rate») (m .k .chord) tuning over
   pub blends : KeptSections (m .code) (tableFor m sections) (m .k .«ref_over_rate») blended over
+  pub planned : KeptTeeth len (m .k .chord) plan teeth
 
 -- lag, drive and kernel on the ring `at` of a delay list
 abbrev pub kernelOn : Structure → (sections : List Float) → Ring → (params state : List Float) → Controls

@@ -1,4 +1,4 @@
--- One frame of one slot: the body of Run::go's frame loop (document 01, One block goes through, points 1 to 5; document 02, C-11, C-15, C-17).
+-- One frame of one slot: the body of Run::go's frame loop (document 01, One block goes through, points 1 to 5; document 02, C-11, C-15, C-17, C-18).
 -- Definitions only. Assumes nothing.
 use Prim.Native.Nat.{ℕ, _+_}
 use mathlib.Core.Bool.{Bool, cond}
@@ -12,6 +12,7 @@ use Rattle.parts.specs.Parts.{tab}
 use Rattle.lane.specs.Floats.{_⊕_, _⊖_, _⊗_, _⊘_, _‼_, fma, decimal, whole, zero, one}
 use Rattle.lane.specs.Lane.{expOf, pow10Of, softClip}
 use Rattle.filter.specs.Voice.{DRIVE, «DRIVE_GAIN», OFFSET, MIX, LEVEL, CHARACTER, «MORPH_X», «MORPH_Y», «MORPH_Z»}
+use Rattle.extended.specs.declared.Chord.{Chord}
 use Rattle.extended.specs.declared.Settings.{Settings}
 use Rattle.extended.specs.Extended.{settingsAt, unitOr0, smoothMark}
 use Rattle.peak.specs.Peak.{peakOf}
@@ -27,14 +28,16 @@ use Rattle.run.specs.declared.Controls.{Controls}
 unfoldable pub cleanDrive : Float
 cleanDrive = pow10Of (neg (whole 24)) (whole 20)
 
-unfoldable pub constantsOf : (rate reference : Float) (clean : Bool) → Constants
-constantsOf rate reference clean =
+-- and the chord (C-18), which stays as it is
+unfoldable pub constantsOf : (rate reference : Float) (clean : Bool) → Chord → Constants
+constantsOf rate reference clean chord =
     record {
       alpha = one ⊖ expOf (neg one ⊘ (decimal 2 1000 ⊗ rate));
       «clip_in» = cond clean cleanDrive one;
       «clip_out» = cond clean (one ⊘ cleanDrive) one;
       «smooth_samples» = decimal 1 10 ⊗ rate;
       «ref_over_rate» = record { 0 = reference ⊘ rate };
+      chord = chord;
     }
 
 -- the channel's sign: mono 0, the first of two channels -1, the second 1
@@ -117,9 +120,9 @@ drivenOf k params input =
     fma (clipped ⊖ u) (params ‼ DRIVE) u
 
 abbrev pub settingsOf : Constants → (params : List Float) → Controls → Settings
-settingsOf k params at = settingsAt (k .«ref_over_rate») params (at .x) (at .y)
+settingsOf k params at = settingsAt (k .«ref_over_rate») (k .chord) params (at .x) (at .y)
 
--- ---- 4. the ring is Comb2's alone: combs/specs/Combs.antt, over lines/specs/Lines.antt
+-- ---- 4. the ring is Comb2's and the chord comb's alone: combs/specs/Combs.antt, over lines/specs/Lines.antt
 
 -- ---- 5. mix and level
 

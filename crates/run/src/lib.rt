@@ -10,6 +10,7 @@ ghost use Rattle.run.specs.Run.{cleanDrive, constantsOf, signOf, smoothO
 ghost use Rattle.run.specs.Run.{drivenOf, mixOf};
 ghost use Rattle.peak.specs.Running.{Runs};
 ghost use Rattle.run.specs.Contracts.{Keeps, kernelOn, overOn, tickOn, TickLeaves, Widths, heldRecord};
+use extended::Chord;
 use filter::Pitch;
 use filter::Ratio;
 use lines::Ring;
@@ -50,13 +51,14 @@ const LAG_X: usize = 18;
 
 const LAG_Y: usize = 19;
 
-// The numbers that are worked out once a block.
+// The numbers that are worked out once a block, and the setup's chord.
 pub struct Constants {
     pub alpha: f32,
     pub clip_in: f32,
     pub clip_out: f32,
     pub smooth_samples: f32,
     pub ref_over_rate: Ratio,
+    pub chord: Chord,
 }
 
 // What a block has of its setup for every tick: the structure's code, the table's active sections, axes and gain, the constants.
@@ -84,8 +86,8 @@ fn clean_drive() -> f32
     lane::pow10(-CLEAN_DB, 20.0)
 }
 
-pub fn constants_of(rate: f32, reference: f32, clean: bool) -> Constants
-    ensures { λ r. ⌜ r ≡ constantsOf rate reference clean ⌝ }
+pub fn constants_of(rate: f32, reference: f32, clean: bool, chord: Chord) -> Constants
+    ensures { λ r. ⌜ r ≡ constantsOf rate reference clean chord ⌝ }
 {
     let alpha = 1.0 - lane::exp(-1.0 / (SMOOTHING_SECONDS * rate));
     let factor = clean_drive();
@@ -96,6 +98,7 @@ pub fn constants_of(rate: f32, reference: f32, clean: bool) -> Constants
             clip_out: 1.0 / factor,
             smooth_samples: SMOOTH_SECONDS * rate,
             ref_over_rate: Ratio(reference / rate),
+            chord: chord,
         };
     }
     Constants {
@@ -104,6 +107,7 @@ pub fn constants_of(rate: f32, reference: f32, clean: bool) -> Constants
         clip_out: 1.0,
         smooth_samples: SMOOTH_SECONDS * rate,
         ref_over_rate: Ratio(reference / rate),
+        chord: chord,
     }
 }
 
@@ -216,13 +220,15 @@ pub struct Sample {
     pub over: u32,
 }
 
-// The lag, the drive and the kernel. `tuning`, `blended` and `over` hold the numbers kept from frame to frame.
+// The lag, the drive and the kernel. `tuning`, `blended`, `over`, `plan` and `teeth` hold the numbers kept from frame to frame.
 fn kernel_tick(
     m: Structure,
     sections: &[f32; 320],
     tuning: &mut [f32; 10],
     blended: &mut [f32; 44],
     over: &mut u32,
+    plan: &mut [usize; 65],
+    teeth: &mut [f32; 9],
     params: &[f32; 11],
     state: &mut [f32; 20],
     delay: &mut [f32],
@@ -230,32 +236,46 @@ fn kernel_tick(
     controls: Controls,
     input: f32,
 ) -> Sample
-    requires { ⌜ (StandsIn (now delay) at) × (Keeps m (now sections) (now tuning) (now blended) (now over)) ⌝ }
+    requires { ⌜ (StandsIn (now delay) at)
+        × (Keeps m (at .len) (now sections) (now tuning) (now blended) (now over) (now plan) (now teeth)) ⌝ }
     ensures { λ r. ⌜ (KernelLeaves
         (kernelOn m (now (sections .entry)) at (now (params .entry)) (now (state .entry)) controls input (now (delay .entry)))
         (now (delay .entry)) at (r .out) (now (state .exit)) (now (delay .exit)))
         × (r .over ≡ overOn m (now (sections .entry)) (now (params .entry)) (now (state .entry)) controls)
-        × (Keeps m (now (sections .entry)) (now (tuning .exit)) (now (blended .exit)) (now (over .exit))) ⌝ }
+        × (Keeps m (at .len) (now (sections .entry)) (now (tuning .exit)) (now (blended .exit)) (now (over .exit))
+        (now (plan .exit)) (now (teeth .exit))) ⌝ }
 {
     let k = m.k;
     let after = lag(m.code, state, k.smooth_samples, params[CHARACTER], controls);
     let driven = drive(k, params, input);
     let reference = k.ref_over_rate;
-    let p = extended::settings_at(reference, params, after.x, after.y);
+    let chord = k.chord;
+    let p = extended::settings_at(reference, chord, params, after.x, after.y);
     let pitch = Pitch(after.pitch);
-    kernels::tuning::retune(m.code, tuning, over, pitch, reference, params[CHARACTER]);
+    kernels::tuning::retune(
+        m.code,
+        tuning,
+        over,
+        pitch,
+        reference,
+        chord,
+        params[CHARACTER],
+    );
     let series = Series {
         active: m.active,
         three: m.three,
         gain: m.gain,
     };
     kernels::tuning::blend_sections(m.code, blended, over, sections, series, pitch, p);
+    kernels::tuning::replan(m.code, plan, teeth, at.len, tuning[0], chord);
     let wet = kernels::kernel(
         m.code,
         sections,
         series,
         tuning,
         blended,
+        plan,
+        teeth,
         state,
         delay,
         at,
@@ -269,13 +289,16 @@ fn kernel_tick(
     }
 }
 
-// One frame of one slot. `tuning`, `blended` and `over` hold the numbers kept from frame to frame, `peak` what runs in the peak's place.
+// One frame of one slot. `tuning`, `blended`, `over`, `plan` and `teeth` hold the numbers kept from frame to frame, `peak` what runs in the
+// peak's place.
 pub fn tick(
     m: Structure,
     sections: &[f32; 320],
     tuning: &mut [f32; 10],
     blended: &mut [f32; 44],
     over: &mut u32,
+    plan: &mut [usize; 65],
+    teeth: &mut [f32; 9],
     targets: &[f32; 11],
     params: &mut [f32; 11],
     state: &mut [f32; 20],
@@ -284,13 +307,15 @@ pub fn tick(
     at: Ring,
     f: FrameInput,
 ) -> Sample
-    requires { ⌜ (Widths (now params) (now state)) × (StandsIn (now delay) at) × (Keeps m (now sections) (now tuning) (now blended) (now over)) ⌝ }
+    requires { ⌜ (Widths (now params) (now state)) × (StandsIn (now delay) at)
+        × (Keeps m (at .len) (now sections) (now tuning) (now blended) (now over) (now plan) (now teeth)) ⌝ }
     ensures { λ r. ⌜ ((b : Float) → Runs b (now (peak .entry)) → Runs b (now (peak .exit)) × (TickLeaves
         (tickOn m (now (sections .entry)) at f (now (targets .entry)) (heldRecord (now (params .entry)) (now (state .entry)) b (now (peak .entry)))
         (now (delay .entry)))
         (now (delay .entry)) at r (heldRecord (now (params .exit)) (now (state .exit)) b (now (peak .exit))) (now (delay .exit))))
         × (r .over ≤ 8) × (Widths (now (params .exit)) (now (state .exit)))
-        × (Keeps m (now (sections .entry)) (now (tuning .exit)) (now (blended .exit)) (now (over .exit))) ⌝ }
+        × (Keeps m (at .len) (now (sections .entry)) (now (tuning .exit)) (now (blended .exit)) (now (over .exit))
+        (now (plan .exit)) (now (teeth .exit))) ⌝ }
 {
     let k = m.k;
     let pitch = f.pitch;
@@ -306,6 +331,8 @@ pub fn tick(
         tuning,
         blended,
         over,
+        plan,
+        teeth,
         params,
         state,
         delay,

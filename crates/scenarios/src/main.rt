@@ -7,6 +7,7 @@ ghost use Prim.Native.Nat.{_<_, _≤_};
 ghost use lib.ListN.{length};
 use bank::Answer;
 use checks::Setup;
+use extended::Chord;
 use filter::VoiceParams;
 use pole_zero::Table;
 use text::Span;
@@ -304,7 +305,7 @@ fn cursor_after(a: Answer, cursor: usize) -> usize {
     }
 }
 
-// A scenario's start: no lists, and a table of two axes and zeros, active 0, gain 1.
+// A scenario's start: no lists, a table of two axes and zeros, active 0, gain 1, and a chord of no teeth.
 fn fresh() -> State {
     State {
         setup: Setup {
@@ -319,6 +320,10 @@ fn fresh() -> State {
                 three: false,
                 sections: [0f32; 320],
                 gain: 1.0,
+            },
+            chord: Chord {
+                count: 0,
+                offsets: [0f32; 8],
             },
         },
         cursor: 0,
@@ -371,8 +376,10 @@ fn table_at(s: &[u8], three: bool) -> TableRead {
     }
 }
 
-// The setup of words 1 to 6, over a table.
-fn setup_at(s: &[u8], table: Table) -> Setup {
+// The setup of words 1 to 6, with another's table and chord.
+fn setup_at(s: &[u8], old: Setup) -> Setup {
+    let table = old.table;
+    let chord = old.chord;
     Setup {
         code: u32_at(s, 1),
         rate: words::float_at(s, 0, 2),
@@ -381,6 +388,7 @@ fn setup_at(s: &[u8], table: Table) -> Setup {
         channels: count_at(s, 0, 5),
         clean: count_at(s, 0, 6) != 0,
         table: table,
+        chord: chord,
     }
 }
 
@@ -417,10 +425,38 @@ fn read_table(s: &[u8], st: State, three: bool) -> StateRead {
     }
 }
 
+// `chord` n o1 .. o8
+fn chord_at(s: &[u8]) -> Chord {
+    Chord {
+        count: u32_at(s, 1),
+        offsets: [
+            words::float_at(s, 0, 2),
+            words::float_at(s, 0, 3),
+            words::float_at(s, 0, 4),
+            words::float_at(s, 0, 5),
+            words::float_at(s, 0, 6),
+            words::float_at(s, 0, 7),
+            words::float_at(s, 0, 8),
+            words::float_at(s, 0, 9),
+        ],
+    }
+}
+
+fn read_chord(s: &[u8], st: State) -> StateRead {
+    let mut next = st;
+    let mut setup = st.setup;
+    let chord = chord_at(s);
+    setup.chord = chord;
+    next.setup = setup;
+    StateRead {
+        state: next,
+        ok: ends_at(s, 10) & words::are_decimals(s, 0, 1, 1) & words::are_floats(s, 0, 2, 8),
+    }
+}
+
 fn read_setup(s: &[u8], st: State) -> StateRead {
     let mut next = st;
-    let old = st.setup;
-    let setup = setup_at(s, old.table);
+    let setup = setup_at(s, st.setup);
     next.setup = setup;
     StateRead {
         state: next,
@@ -431,8 +467,7 @@ fn read_setup(s: &[u8], st: State) -> StateRead {
 // `open` code rate reference voices channels clean T R D
 fn read_open(s: &[u8], st: State) -> StateRead {
     let mut next = st;
-    let old = st.setup;
-    let setup = setup_at(s, old.table);
+    let setup = setup_at(s, st.setup);
     let at = words::start(s, 0, 7);
     let own = lengths_at(s, at);
     next.setup = setup;
@@ -532,6 +567,7 @@ fn read_state(word: usize, s: &[u8], st: State) -> StateRead {
         17 => read_block(s, st, false, true),
         18 => read_scratch(s, st),
         19 => read_table(s, st, true),
+        20 => read_chord(s, st),
         _ => StateRead {
             state: st,
             ok: is_read(word, s),
@@ -1056,11 +1092,11 @@ fn put_unread(out: &mut [u8]) -> usize {
     text::put_bytes(out, 0, b"?\n")
 }
 
-// The place of the line's first word among the commands; 20 where it is none of them.
+// The place of the line's first word among the commands; 21 where it is none of them.
 fn command_at(s: &[u8]) -> usize {
     words::name_at(
-        b"scenario table open setup lend cursor poke set start block blockh dump p x y a counts audition scratch table3",
-        20,
+        b"scenario table open setup lend cursor poke set start block blockh dump p x y a counts audition scratch table3 chord",
+        21,
         s,
         0,
     )

@@ -1,5 +1,5 @@
 -- What the exported calls of the bank answer and leave: numbers in place of the answers of voices/specs/Calls (document 02, C-11, C-12, C-16,
--- C-17).
+-- C-17, C-18).
 -- Definitions only. Assumes nothing.
 use mathlib.Core.Path.{_≡_}
 use Prim.Native.Nat.{ℕ}
@@ -7,6 +7,7 @@ use mathlib.Core.Bool.{Bool}
 use mathlib.Core.List.{List, [], _∷_}
 use lib.Ieee.{Float}
 use Rattle.filter.specs.declared.VoiceParams.{VoiceParams}
+use Rattle.extended.specs.declared.Chord.{Chord}
 use Rattle.voices.specs.Calls.{Check, fine, refused, Bank, Block, Call, callBlock, callAudition, Answer, refusedCall, kept, rendered, auditioned, Run}
 use Rattle.voices.specs.Calls.{call, openVerdict}
 use Rattle.checks.specs.declared.Setup.{Setup}
@@ -17,12 +18,15 @@ use Rattle.parking.specs.Parking.{parkVerdict, writtenBy, setupIn, restoredBy}
 
 -- the interface's version, 10,000 x major + 100 x minor + patch
 abbrev pub version : ℕ
-version = 900
+version = 1000
 
--- a setup from the numbers that a caller in C hands over
+-- a chord (C-18) and a setup from the numbers that a caller in C hands over
+abbrev pub chordOf : (count : ℕ) (offsets : List Float) → Chord
+chordOf count offsets = record { count = count; offsets = offsets }
+
 abbrev pub setupOf : (code : ℕ) (rate reference : Float) (voices channels : ℕ) (clean : Bool)
-    (active : ℕ) (three : Bool) (sections : List Float) (gain : Float) → Setup
-setupOf code rate reference voices channels clean active three sections gain =
+    (active : ℕ) (three : Bool) (sections : List Float) (gain : Float) (count : ℕ) (offsets : List Float) → Setup
+setupOf code rate reference voices channels clean active three sections gain count offsets =
     record {
       code = code;
       rate = rate;
@@ -31,6 +35,7 @@ setupOf code rate reference voices channels clean active three sections gain =
       channels = channels;
       clean = clean;
       table = record { active = active; three = three; sections = sections; gain = gain };
+      chord = chordOf count offsets;
     }
 
 -- a voice's settings, in the order of VoiceParams

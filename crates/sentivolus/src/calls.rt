@@ -13,6 +13,7 @@ ghost use Rattle.sentivolus.specs.Answers.{numberOf, framesOr, heldNumbe
 use bank::Answer;
 use checks::Setup;
 use checks::Verdict;
+use extended::Chord;
 use filter::VoiceParams;
 use parking::Held;
 use pole_zero::Table;
@@ -22,7 +23,7 @@ use pole_zero::Table;
 pub extern "C" fn sentivolus_version() -> u32
     ensures { λ r. ⌜ r ≡ version ⌝ }
 {
-    900
+    1000
 }
 
 // The default settings of a voice, in the order of VoiceParams.
@@ -57,10 +58,13 @@ fn setup_of(
     three: bool,
     sections: &[f32; 320],
     gain: f32,
+    count: u32,
+    offsets: &[f32; 8],
 ) -> Setup
-    ensures { λ r. ⌜ r ≡ setupOf code rate reference voices channels clean active three (now (sections .entry)) gain ⌝ }
+    ensures { λ r. ⌜ r ≡ setupOf code rate reference voices channels clean active three (now (sections .entry)) gain count (now (offsets .entry)) ⌝ }
 {
     let s = *sections;
+    let octaves = *offsets;
     let table = Table {
         active: active,
         three: three,
@@ -75,6 +79,10 @@ fn setup_of(
         channels: channels,
         clean: clean,
         table: table,
+        chord: Chord {
+            count: count,
+            offsets: octaves,
+        },
     }
 }
 
@@ -121,11 +129,13 @@ pub extern "C" fn sentivolus_open(
     three: bool,
     sections: &[f32; 320],
     gain: f32,
+    count: u32,
+    offsets: &[f32; 8],
     targets: &mut [f32],
     records: &mut [f32],
     delay: &mut [f32],
 ) -> u32
-    ensures { λ r. ⌜ OpenLeaves (setupOf code rate reference voices channels clean active three (now (sections .entry)) gain)
+    ensures { λ r. ⌜ OpenLeaves (setupOf code rate reference voices channels clean active three (now (sections .entry)) gain count (now (offsets .entry)))
         (bankOf (now (targets .entry)) (now (records .entry)) (now (delay .entry)) 0)
         r (now (targets .exit)) (now (records .exit)) (now (delay .exit)) ⌝ }
 {
@@ -140,6 +150,8 @@ pub extern "C" fn sentivolus_open(
         three,
         sections,
         gain,
+        count,
+        offsets,
     );
     let opened = bank::open(s, targets, records, delay);
     let a = opened.answer;
@@ -159,6 +171,8 @@ pub extern "C" fn sentivolus_set(
     three: bool,
     sections: &[f32; 320],
     gain: f32,
+    count: u32,
+    offsets: &[f32; 8],
     targets: &mut [f32],
     voice: usize,
     resonance: f32,
@@ -172,7 +186,7 @@ pub extern "C" fn sentivolus_set(
     morph_y: f32,
     morph_z: f32,
 ) -> u32
-    ensures { λ r. ⌜ CallLeaves (setupOf code rate reference voices channels clean active three (now (sections .entry)) gain)
+    ensures { λ r. ⌜ CallLeaves (setupOf code rate reference voices channels clean active three (now (sections .entry)) gain count (now (offsets .entry)))
         (callSet voice (paramsOf resonance drive saturation character «stereo_offset» mix level «morph_x» «morph_y» «morph_z»))
         (bankOf (now (targets .entry)) [] [] 0)
         r (now (targets .exit)) [] [] ⌝ }
@@ -188,6 +202,8 @@ pub extern "C" fn sentivolus_set(
         three,
         sections,
         gain,
+        count,
+        offsets,
     );
     let p = VoiceParams {
         resonance: resonance,
@@ -217,12 +233,14 @@ pub extern "C" fn sentivolus_start(
     three: bool,
     sections: &[f32; 320],
     gain: f32,
+    count: u32,
+    offsets: &[f32; 8],
     targets: &[f32],
     records: &mut [f32],
     delay: &mut [f32],
     voice: usize,
 ) -> u32
-    ensures { λ r. ⌜ CallLeaves (setupOf code rate reference voices channels clean active three (now (sections .entry)) gain)
+    ensures { λ r. ⌜ CallLeaves (setupOf code rate reference voices channels clean active three (now (sections .entry)) gain count (now (offsets .entry)))
         (callStart voice)
         (bankOf (now (targets .entry)) (now (records .entry)) (now (delay .entry)) 0)
         r (now (targets .entry)) (now (records .exit)) (now (delay .exit)) ⌝ }
@@ -238,6 +256,8 @@ pub extern "C" fn sentivolus_start(
         three,
         sections,
         gain,
+        count,
+        offsets,
     );
     number_of(bank::start(s, 0, targets, records, delay, voice))
 }
@@ -256,6 +276,8 @@ pub extern "C" fn sentivolus_block(
     three: bool,
     sections: &[f32; 320],
     gain: f32,
+    count: u32,
+    offsets: &[f32; 8],
     cursor: &mut usize,
     targets: &[f32],
     records: &mut [f32],
@@ -269,7 +291,7 @@ pub extern "C" fn sentivolus_block(
     counts: &mut [u32],
     rendered: &mut usize,
 ) -> u32
-    ensures { λ r. ⌜ BlockLeaves (setupOf code rate reference voices channels clean active three (now (sections .entry)) gain)
+    ensures { λ r. ⌜ BlockLeaves (setupOf code rate reference voices channels clean active three (now (sections .entry)) gain count (now (offsets .entry)))
         (blockFrom frames (now (pitch .entry)) steered (now (x .entry)) (now (y .entry)) (now (audio .entry)) (now (counts .entry)))
         (bankOf (now (targets .entry)) (now (records .entry)) (now (delay .entry)) (now (cursor .entry)))
         (now (rendered .entry)) r (now (cursor .exit)) (now (rendered .exit))
@@ -286,6 +308,8 @@ pub extern "C" fn sentivolus_block(
         three,
         sections,
         gain,
+        count,
+        offsets,
     );
     let from = *cursor;
     let shown = *rendered;
@@ -322,6 +346,8 @@ pub extern "C" fn sentivolus_audition(
     three: bool,
     sections: &[f32; 320],
     gain: f32,
+    count: u32,
+    offsets: &[f32; 8],
     cursor: usize,
     targets: &[f32],
     records: &[f32],
@@ -339,7 +365,8 @@ pub extern "C" fn sentivolus_audition(
     counts: &mut [u32],
     rendered: &mut usize,
 ) -> u32
-    ensures { λ r. ⌜ AuditionLeaves (setupOf code rate reference voices channels clean active three (now (sections .entry)) gain)
+    ensures { λ r. ⌜ AuditionLeaves
+        (setupOf code rate reference voices channels clean active three (now (sections .entry)) gain count (now (offsets .entry)))
         (blockFrom frames (now (pitch .entry)) steered (now (x .entry)) (now (y .entry)) (now (audio .entry)) (now (counts .entry)))
         (bankOf (now («scratch_targets» .entry)) (now («scratch_records» .entry)) (now («scratch_delay» .entry)) (now («scratch_cursor» .entry)))
         (bankOf (now (targets .entry)) (now (records .entry)) (now (delay .entry)) cursor)
@@ -357,6 +384,8 @@ pub extern "C" fn sentivolus_audition(
         three,
         sections,
         gain,
+        count,
+        offsets,
     );
     let at = *scratch_cursor;
     let shown = *rendered;
@@ -395,8 +424,11 @@ pub extern "C" fn sentivolus_park_len(
     three: bool,
     sections: &[f32; 320],
     gain: f32,
+    count: u32,
+    offsets: &[f32; 8],
 ) -> usize
-    ensures { λ r. ⌜ r ≡ parkLength (setupOf code rate reference voices channels clean active three (now (sections .entry)) gain) ⌝ }
+    ensures { λ r. ⌜ r ≡ parkLength
+        (setupOf code rate reference voices channels clean active three (now (sections .entry)) gain count (now (offsets .entry))) ⌝ }
 {
     let s = setup_of(
         code,
@@ -409,6 +441,8 @@ pub extern "C" fn sentivolus_park_len(
         three,
         sections,
         gain,
+        count,
+        offsets,
     );
     parking::park_len(s)
 }
@@ -426,13 +460,15 @@ pub extern "C" fn sentivolus_park(
     three: bool,
     sections: &[f32; 320],
     gain: f32,
+    count: u32,
+    offsets: &[f32; 8],
     cursor: usize,
     targets: &[f32],
     records: &[f32],
     delay: &[f32],
     file: &mut [u8],
 ) -> u32
-    ensures { λ r. ⌜ ParkLeft (setupOf code rate reference voices channels clean active three (now (sections .entry)) gain)
+    ensures { λ r. ⌜ ParkLeft (setupOf code rate reference voices channels clean active three (now (sections .entry)) gain count (now (offsets .entry)))
         (bankOf (now (targets .entry)) (now (records .entry)) (now (delay .entry)) cursor)
         (now (file .entry)) r (now (file .exit)) ⌝ }
 {
@@ -447,6 +483,8 @@ pub extern "C" fn sentivolus_park(
         three,
         sections,
         gain,
+        count,
+        offsets,
     );
     number_of(parking::park(s, cursor, targets, records, delay, file))
 }
@@ -495,12 +533,16 @@ fn put_setup(
     three: &mut bool,
     sections: &mut [f32; 320],
     gain: &mut f32,
+    count: &mut u32,
+    offsets: &mut [f32; 8],
 )
     ensures { λ _. ⌜ setupOf (now (code .exit)) (now (rate .exit)) (now (reference .exit)) (now (voices .exit)) (now (channels .exit)) (now (clean .exit))
-        (now (active .exit)) (now (three .exit)) (now (sections .exit)) (now (gain .exit)) ≡ setup ⌝ }
+        (now (active .exit)) (now (three .exit)) (now (sections .exit)) (now (gain .exit)) (now (count .exit)) (now (offsets .exit)) ≡ setup ⌝ }
 {
     let table = setup.table;
     let numbers = table.sections;
+    let chord = setup.chord;
+    let octaves = chord.offsets;
     *code = setup.code;
     *rate = setup.rate;
     *reference = setup.reference;
@@ -511,6 +553,8 @@ fn put_setup(
     *three = table.three;
     *sections = numbers;
     *gain = table.gain;
+    *count = chord.count;
+    *offsets = octaves;
 }
 
 // The setup and the cursor of a parked file (C-12), so that lists can be lent: refused as by `sentivolus_restore`, but for 6.
@@ -527,17 +571,20 @@ pub extern "C" fn sentivolus_parked_setup(
     three: &mut bool,
     sections: &mut [f32; 320],
     gain: &mut f32,
+    count: &mut u32,
+    offsets: &mut [f32; 8],
     cursor: &mut usize,
 ) -> u32
     ensures { λ r. ⌜ SetupLeft (fileVerdict (now (file .entry))) (now (file .entry))
         (setupOf (now (code .entry)) (now (rate .entry)) (now (reference .entry)) (now (voices .entry)) (now (channels .entry)) (now (clean .entry))
-        (now (active .entry)) (now (three .entry)) (now (sections .entry)) (now (gain .entry)))
+        (now (active .entry)) (now (three .entry)) (now (sections .entry)) (now (gain .entry)) (now (count .entry)) (now (offsets .entry)))
         (now (cursor .entry)) r
         (setupOf (now (code .exit)) (now (rate .exit)) (now (reference .exit)) (now (voices .exit)) (now (channels .exit)) (now (clean .exit))
-        (now (active .exit)) (now (three .exit)) (now (sections .exit)) (now (gain .exit)))
+        (now (active .exit)) (now (three .exit)) (now (sections .exit)) (now (gain .exit)) (now (count .exit)) (now (offsets .exit)))
         (now (cursor .exit)) ⌝ }
 {
     let kept = *sections;
+    let octaves = *offsets;
     let given = setup_of(
         *code,
         *rate,
@@ -549,6 +596,8 @@ pub extern "C" fn sentivolus_parked_setup(
         *three,
         &kept,
         *gain,
+        *count,
+        &octaves,
     );
     let at = *cursor;
     let held = parking::parked_setup(file);
@@ -564,6 +613,8 @@ pub extern "C" fn sentivolus_parked_setup(
         three,
         sections,
         gain,
+        count,
+        offsets,
     );
     *cursor = cursor_left(held, at);
     held_number(held)
@@ -586,17 +637,20 @@ pub extern "C" fn sentivolus_restore(
     three: &mut bool,
     sections: &mut [f32; 320],
     gain: &mut f32,
+    count: &mut u32,
+    offsets: &mut [f32; 8],
     cursor: &mut usize,
 ) -> u32
     ensures { λ r. ⌜ RestoreLeft (now (file .entry)) (bankOf (now (targets .entry)) (now (records .entry)) (now (delay .entry)) 0)
         (setupOf (now (code .entry)) (now (rate .entry)) (now (reference .entry)) (now (voices .entry)) (now (channels .entry)) (now (clean .entry))
-        (now (active .entry)) (now (three .entry)) (now (sections .entry)) (now (gain .entry)))
+        (now (active .entry)) (now (three .entry)) (now (sections .entry)) (now (gain .entry)) (now (count .entry)) (now (offsets .entry)))
         (now (cursor .entry)) r
         (setupOf (now (code .exit)) (now (rate .exit)) (now (reference .exit)) (now (voices .exit)) (now (channels .exit)) (now (clean .exit))
-        (now (active .exit)) (now (three .exit)) (now (sections .exit)) (now (gain .exit)))
+        (now (active .exit)) (now (three .exit)) (now (sections .exit)) (now (gain .exit)) (now (count .exit)) (now (offsets .exit)))
         (now (cursor .exit)) (now (targets .exit)) (now (records .exit)) (now (delay .exit)) ⌝ }
 {
     let kept = *sections;
+    let octaves = *offsets;
     let given = setup_of(
         *code,
         *rate,
@@ -608,6 +662,8 @@ pub extern "C" fn sentivolus_restore(
         *three,
         &kept,
         *gain,
+        *count,
+        &octaves,
     );
     let at = *cursor;
     let held = parking::restore(file, targets, records, delay);
@@ -623,6 +679,8 @@ pub extern "C" fn sentivolus_restore(
         three,
         sections,
         gain,
+        count,
+        offsets,
     );
     *cursor = cursor_left(held, at);
     held_number(held)

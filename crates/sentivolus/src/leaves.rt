@@ -8,8 +8,10 @@ ghost use Rattle.lines.specs.Lines.{hermiteOf, ringLen, readOf};
 ghost use Rattle.filter.specs.Filter.{ratioOf, overOf, gainOf, svfOf};
 ghost use Rattle.filter.specs.Voice.{voiceTargets};
 ghost use Rattle.extended.specs.Extended.{asymOf};
-ghost use Rattle.sentivolus.specs.Calls.{paramsOf};
+ghost use Rattle.teeth.specs.Contracts.{ChordLeaves};
+ghost use Rattle.sentivolus.specs.Calls.{chordOf, paramsOf};
 ghost use Rattle.sentivolus.specs.Design.{stageNumbers};
+use extended::Chord;
 use filter::Pitch;
 use filter::Ratio;
 use filter::VoiceParams;
@@ -102,6 +104,28 @@ pub extern "C" fn sentivolus_read(
     ensures { λ r. ⌜ r ≡ readOf (now (buf .entry)) len cursor slot delay ⌝ }
 {
     lines::read_at(buf, len, cursor, slot, delay)
+}
+
+// The chord comb's teeth read together (C-18): the taps, and the size of the set of cells that they need.
+#[no_mangle]
+pub extern "C" fn sentivolus_chord_read(
+    buf: &[f32],
+    len: usize,
+    cursor: usize,
+    slot: usize,
+    ratio: f32,
+    count: u32,
+    offsets: &[f32; 8],
+    taps: &mut [f32; 8],
+) -> usize
+    ensures { λ r. ⌜ ChordLeaves (now (buf .entry)) len cursor slot ratio (chordOf count (now (offsets .entry))) r (now (taps .exit)) ⌝ }
+{
+    let octaves = *offsets;
+    let chord = Chord {
+        count: count,
+        offsets: octaves,
+    };
+    teeth::chord_read(buf, len, cursor, slot, ratio, chord, taps)
 }
 
 #[no_mangle]

@@ -23,10 +23,10 @@ use Rattle.places.specs.ByHead.{Shuffled, target-heads, record-heads, ring-head
 use Rattle.rows.specs.Rows.{numbersIn}
 use Rattle.rows.specs.Back.{rows-same, numbers-are, parts-hold}
 use Rattle.files.specs.File.{parkedTargets, parkedRecord}
-use Rattle.setups.specs.Setup.{setupCheckOf}
-use Rattle.setups.specs.Accepted.{SetupAccepted, setup-accepted}
-use Rattle.setups.specs.Parked.{setupWord, soloIn, voicesIn, cursorIn, slotsIn, ringIn, bankIn}
-use Rattle.setups.specs.Parked.{damagedCheck, headCheck, blocksCheck, fileVerdict, restoreVerdict}
+use Rattle.setups.specs.Setup.{codesCheckOf}
+use Rattle.setups.specs.Accepted.{SetupAccepted, codes-accepted}
+use Rattle.setups.specs.Parked.{parkedCodes, noChord, setupWord, soloIn, voicesIn, cursorIn, slotsIn, ringIn, bankIn}
+use Rattle.setups.specs.Parked.{damagedCheck, headCheck, soloCheck, blocksCheck, fileVerdict, restoreVerdict}
 
 -- what two files have in common that restore alike
 pub record SameFile (a b : List ℕ) : Type 0 where
@@ -79,6 +79,7 @@ module _ (a b : List ℕ) (sh : Shuffled a b) where
             ++ replicate 160 zero;
         gain = floatOf (word-same 169 (omega arith) t);
       };
+      chord = noChord;
     }
 
     voices-same : voicesIn b ≡ voicesIn a
@@ -122,34 +123,34 @@ module _ (a b : List ℕ) (sh : Shuffled a b) where
       (λ e. let o = and-true _ _ e in ap (λ (x : ℕ). leb x 1) (word-same (o .0) (o .1) 3 (omega arith))))
 
   rest-same : headCheck a ≡ fine
-      → setupCheckOf (soloIn b) (voicesIn b) then blocksCheck b ≡ setupCheckOf (soloIn a) (voicesIn a) then blocksCheck a
+      → soloCheck b then blocksCheck b ≡ soloCheck a then blocksCheck a
   rest-same e =
       let o = heads-once e in
       let so = solo-same (o .0) (o .1) in
       let vo = voices-same (o .0) (o .1) in
-      (λ t. setupCheckOf (so t) (vo t) then check (isWhole (vo t) (so t .channels * vo t) (partsOf (ringLen (so t .rate))) b) 13)
-      ∙ ap (λ (x : Bool). setupCheckOf (soloIn a) (voicesIn a) then check x 13) (whole-shuffled a b sh (voicesIn a) (slotsIn a) (partsOf (ringIn a)))
+      (λ t. codesCheckOf parkedCodes (so t) (vo t) then check (isWhole (vo t) (so t .channels * vo t) (partsOf (ringLen (so t .rate))) b) 13)
+      ∙ ap (λ (x : Bool). soloCheck a then check x 13) (whole-shuffled a b sh (voicesIn a) (slotsIn a) (partsOf (ringIn a)))
 
   file-same : fileVerdict b ≡ fileVerdict a
   unfolding fileVerdict
   file-same =
-      then-same (damagedCheck a) (damagedCheck b) (headCheck a then setupCheckOf (soloIn a) (voicesIn a) then blocksCheck a)
-      (headCheck b then setupCheckOf (soloIn b) (voicesIn b) then blocksCheck b) damaged-same
-      (λ d. then-same (headCheck a) (headCheck b) (setupCheckOf (soloIn a) (voicesIn a) then blocksCheck a)
-      (setupCheckOf (soloIn b) (voicesIn b) then blocksCheck b) head-same rest-same)
+      then-same (damagedCheck a) (damagedCheck b) (headCheck a then soloCheck a then blocksCheck a)
+      (headCheck b then soloCheck b then blocksCheck b) damaged-same
+      (λ d. then-same (headCheck a) (headCheck b) (soloCheck a then blocksCheck a)
+      (soloCheck b then blocksCheck b) head-same rest-same)
 
   -- ---- what an accepted file holds
 
   pub same-file : fileVerdict a ≡ fine → SameFile a b
   unfolding fileVerdict bankIn
   same-file e =
-      let c1 = then-fine (damagedCheck a) (headCheck a then setupCheckOf (soloIn a) (voicesIn a) then blocksCheck a) e in
-      let c2 = then-fine (headCheck a) (setupCheckOf (soloIn a) (voicesIn a) then blocksCheck a) (c1 .1) in
-      let c3 = then-fine (setupCheckOf (soloIn a) (voicesIn a)) (blocksCheck a) (c2 .1) in
+      let c1 = then-fine (damagedCheck a) (headCheck a then soloCheck a then blocksCheck a) e in
+      let c2 = then-fine (headCheck a) (soloCheck a then blocksCheck a) (c1 .1) in
+      let c3 = then-fine (soloCheck a) (blocksCheck a) (c2 .1) in
       let o = heads-once (c2 .0) in
       let so : soloIn b ≡ soloIn a = solo-same (o .0) (o .1) in
       let vo : voicesIn b ≡ voicesIn a = voices-same (o .0) (o .1) in
-      let k : SetupAccepted (soloIn a) (voicesIn a) = setup-accepted (soloIn a) (voicesIn a) (c3 .0) in
+      let k : SetupAccepted (soloIn a) (voicesIn a) = codes-accepted parkedCodes (soloIn a) (voicesIn a) (c3 .0) in
       let v : ℕ = voicesIn a in
       let s : ℕ = slotsIn a in
       let L : ℕ = ringIn a in

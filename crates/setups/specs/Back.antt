@@ -1,6 +1,6 @@
 -- Restoring what was parked (document 02, C-12: "Restoring what was parked gives the same bank bit by bit"): the statement, then its proof. Each word and
 -- each number is read from the block that it was written to, and an f32 comes back from its word; the numbers that no block carries were +0, and of the
--- table the face that is not heard comes back as 0 (C-17). Assumes nothing.
+-- table the face that is not heard comes back as 0 (C-17), as does the chord (C-18). Assumes nothing.
 use mathlib.Core.Path.{_≡_, refl, sym, ap, _∙_, subst}
 use mathlib.Core.Bool.{Bool, true, false, cond}
 use Prim.Native.Nat.{ℕ, _+_, _-_, _*_, _/_, _%_, _<_}
@@ -30,11 +30,11 @@ use Rattle.files.specs.Image.{Image, imageFile, Whole}
 use Rattle.files.specs.Asks.{imageOf}
 use Rattle.files.specs.Same.{file-is}
 use Rattle.files.specs.Trip.{setup-back, targets-back, records-back, delay-back, setup-once, parked-whole, parked-multiple, parked-sums}
-use Rattle.setups.specs.Setup.{SoloSetup, heardTable, heard, setupCheckOf}
-use Rattle.setups.specs.Heard.{heard-check}
-use Rattle.setups.specs.Accepted.{SetupAccepted, setup-accepted}
+use Rattle.setups.specs.Setup.{SoloSetup, heardTable, heard, codesCheckOf, setupCheckOf}
+use Rattle.setups.specs.Heard.{chord-ignored}
+use Rattle.setups.specs.Accepted.{SetupAccepted, setup-accepted, without-chord}
 use Rattle.setups.specs.Parked.{cleanWord, frontWords, setupWords, parkedFile, setupWord, soloIn, voicesIn, cursorIn}
-use Rattle.setups.specs.Parked.{bankIn, fileVerdict, Holds}
+use Rattle.setups.specs.Parked.{bankIn, parkedCodes, soloCheck, fileVerdict, Holds}
 
 -- numbers that are f32s, as every slice's and struct's in the code are; a table has 320
 pub record F32Setup (s : SoloSetup) : Type 0 where
@@ -49,12 +49,12 @@ pub record F32Bank (b : Bank) : Type 0 where
   pub records : F32s (b .records)
   pub delay : F32s (b .delay)
 
--- What parking writes of an accepted setup of two axes, and of lists as long as it asks whose z numbers have no bit set (C-17), holds that setup as it is
--- heard and that bank.
+-- What parking writes of an accepted setup of two axes (C-17) whose code is not 13 (C-18), and of lists as long as it asks whose z numbers have no bit
+-- set, holds that setup as it is heard and that bank.
 abbrev pub ParkedHolds : SoloSetup → (n : ℕ) → Bank → Type 0
 ParkedHolds s n b =
     setupCheckOf s n ≡ fine → storeCheckOf (s .channels) (ringLen (s .rate)) n b ≡ fine
-    → s .table .three ≡ false → isFlat (s .channels) n b ≡ true → F32Setup s → F32Bank b
+    → s .table .three ≡ false → eqb (s .code) 13 ≡ false → isFlat (s .channels) n b ≡ true → F32Setup s → F32Bank b
     → Holds (parkedFile s n b) s n b
 
 -- ---- the setup's words
@@ -116,9 +116,9 @@ module _ (file : List ℕ) (s : SoloSetup) (n cursor : ℕ) (good : F32Setup s)
       ap floatOf (at (9 + i) (omega arith) ∙ section-word s n cursor i l)
       ∙ float-of-bits (s .table .sections ‼ i) (good .sections i (omega (arith, good .length-sections))))
 
-  solo-back : s .table .three ≡ false → soloIn file ≡ heard s
+  solo-back : s .table .three ≡ false → eqb (s .code) 13 ≡ false → soloIn file ≡ heard s
   unfolding soloIn frontWords heardTable
-  solo-back two = λ t. record {
+  solo-back two other = λ t. record {
     code = front-at 0 (omega arith) t;
     rate = (ap floatOf (front-at 4 (omega arith)) ∙ float-of-bits (s .rate) (good .rate)) t;
     reference = (ap floatOf (front-at 5 (omega arith)) ∙ float-of-bits (s .reference) (good .reference)) t;
@@ -133,6 +133,7 @@ module _ (file : List ℕ) (s : SoloSetup) (n cursor : ℕ) (good : F32Setup s)
           t;
       gain = (ap floatOf (at 169 (omega arith) ∙ gain-word s n cursor) ∙ float-of-bits (s .table .gain) (good .gain)) t;
     };
+    chord = sym (chord-ignored (s .code) (s .chord) other) t;
   }
 
   voices-back : voicesIn file ≡ n
@@ -188,7 +189,7 @@ module _ (s : SoloSetup) (n : ℕ) (b : Bank) where
   parked-is = file-is n (s .channels * n) (ringLen (s .rate)) (setupWords s n (b .cursor)) (b .targets) (b .records) (b .delay)
 
   module _ (ok : setupCheckOf s n ≡ fine) (st : storeCheckOf (s .channels) (ringLen (s .rate)) n b ≡ fine) (two : s .table .three ≡ false)
-      (flat : isFlat (s .channels) n b ≡ true) (fs : F32Setup s) (fb : F32Bank b) where
+      (other : eqb (s .code) 13 ≡ false) (flat : isFlat (s .channels) n b ≡ true) (fs : F32Setup s) (fb : F32Bank b) where
     w : Whole parkedImage
     w = image-whole ok st
 
@@ -200,7 +201,7 @@ module _ (s : SoloSetup) (n : ℕ) (b : Bank) where
     word-at i l = setup-back parkedImage w i l
 
     solo : soloIn F ≡ heard s
-    solo = solo-back F s n (b .cursor) fs word-at two
+    solo = solo-back F s n (b .cursor) fs word-at two other
 
     voices : voicesIn F ≡ n
     voices = voices-back F s n (b .cursor) fs word-at
@@ -224,8 +225,9 @@ module _ (s : SoloSetup) (n : ℕ) (b : Bank) where
           cursor = b .cursor;
         })
 
-    setup-is : setupCheckOf (soloIn F) (voicesIn F) ≡ fine
-    setup-is = (λ t. setupCheckOf (solo t) (voices t)) ∙ heard-check s n ∙ ok
+    setup-is : soloCheck F ≡ fine
+    unfolding codesCheckOf
+    setup-is = (λ t. codesCheckOf parkedCodes (solo t) (voices t)) ∙ sym (without-chord s n other) ∙ ok
 
     blocks-are : isWhole (voicesIn F) (soloIn F .channels * voicesIn F) (partsOf (ringLen (soloIn F .rate))) F ≡ true
     blocks-are = (λ t. isWhole (voices t) (solo t .channels * voices t) (partsOf (ringLen (solo t .rate))) F) ∙ parked-whole parkedImage w
@@ -247,4 +249,4 @@ module _ (s : SoloSetup) (n : ℕ) (b : Bank) where
     holds = subst (λ (f : List ℕ). Holds f s n b) (sym parked-is) (record { setup = solo; voices = voices; bank = bank; accepted = verdict })
 
 pub parked-holds : (s : SoloSetup) (n : ℕ) (b : Bank) → ParkedHolds s n b
-parked-holds s n b ok st two flat fs fb = holds s n b ok st two flat fs fb
+parked-holds s n b ok st two other flat fs fb = holds s n b ok st two other flat fs fb

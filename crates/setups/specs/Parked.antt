@@ -1,5 +1,5 @@
--- A bank as a parked file, and the reader (document 02, C-12 and C-17). n voices; the words of a file are read from the blocks that carry their heads, wherever
--- these stand. 4294967296 is 2 ^ 32. Definitions only.
+-- A bank as a parked file, and the reader (document 02, C-12, C-17, C-18). n voices; the words of a file are read from the blocks that carry their heads,
+-- wherever these stand. 4294967296 is 2 ^ 32. Definitions only.
 use mathlib.Core.Path.{_≡_}
 use Prim.Native.Nat.{ℕ, _+_, _*_, _/_, _%_}
 use mathlib.Core.Bool.{Bool, true, false, _&&_}
@@ -16,7 +16,8 @@ use Rattle.blocks.specs.Blocks.{headOf, contentAt, partsOf}
 use Rattle.places.specs.Places.{soundFile, isOnce, isWhole, blockWith}
 use Rattle.rows.specs.Rows.{numbersIn}
 use Rattle.files.specs.File.{parkedTargets, parkedRecord, fileOf}
-use Rattle.setups.specs.Setup.{SoloSetup, heard, setupCheckOf}
+use Rattle.extended.specs.declared.Chord.{Chord}
+use Rattle.setups.specs.Setup.{SoloSetup, heard, codesCheckOf}
 
 -- ---- parking
 
@@ -52,6 +53,10 @@ parkedFile s n b = fileOf n (s .channels * n) (ringLen (s .rate)) (setupWords s 
 unfoldable pub setupWord : List ℕ → ℕ → ℕ
 setupWord file i = contentAt (blockWith file (headOf 1 0 (i / 126))) (i % 126)
 
+-- C-18: numbers that are ignored "are not parked, return as 0"
+abbrev pub noChord : Chord
+noChord = record { count = 0; offsets = replicate 8 zero }
+
 -- C-17: a parked setup has two axes, its z = 1 face is 0
 unfoldable pub soloIn : List ℕ → SoloSetup
 soloIn file = record {
@@ -66,6 +71,7 @@ soloIn file = record {
     sections = tab (λ i. floatOf (setupWord file (9 + i))) 160 ++ replicate 160 zero;
     gain = floatOf (setupWord file 169);
   };
+  chord = noChord;
 }
 
 unfoldable pub voicesIn : List ℕ → ℕ
@@ -103,9 +109,17 @@ headCheck file = check (isOnce file (headOf 1 0 0) && isOnce file (headOf 1 0 1)
 abbrev pub blocksCheck : List ℕ → Check
 blocksCheck file = check (isWhole (voicesIn file) (slotsIn file) (partsOf (ringIn file)) file) 13
 
--- all but 6; "the setup then meets 1 to 5"
+-- the highest code that a file may hold: of 13 C-18 says "in a kind 1 block its code meets 5"
+abbrev pub parkedCodes : ℕ
+parkedCodes = 12
+
+-- "the setup then meets 1 to 5"
+abbrev pub soloCheck : List ℕ → Check
+soloCheck file = codesCheckOf parkedCodes (soloIn file) (voicesIn file)
+
+-- all but 6
 unfoldable pub fileVerdict : List ℕ → Check
-fileVerdict file = damagedCheck file then headCheck file then setupCheckOf (soloIn file) (voicesIn file) then blocksCheck file
+fileVerdict file = damagedCheck file then headCheck file then soloCheck file then blocksCheck file
 
 -- "last comes 6"
 unfoldable pub restoreVerdict : List ℕ → (lent : Bank) → Check
@@ -113,7 +127,7 @@ restoreVerdict file lent = fileVerdict file then storeCheckOf (soloIn file .chan
 
 -- ---- "Restoring what was parked"
 
--- the file holds what is heard of the setup s (C-17), with n voices, and the bank b, and is refused for nothing but the lists that the reader is lent
+-- the file holds what is heard of the setup s (C-17, C-18), with n voices, and the bank b, and is refused for nothing but the lists that the reader is lent
 pub record Holds (file : List ℕ) (s : SoloSetup) (n : ℕ) (b : Bank) : Type 0 where
   pub setup : soloIn file ≡ heard s
   pub voices : voicesIn file ≡ n

@@ -28,6 +28,7 @@ soloAt e sections = record {
   channels = e .channels;
   clean = e .clean;
   table = tableFor (e .m) sections;
+  chord = e .chord;
 }
 
 abbrev pub engineAt : Prepared → (sections : List Float) → Engine
@@ -61,7 +62,7 @@ pub record Worked (e : Prepared) : Type 0 where
   pub slots : e .slots ≡ e .channels * e .voices
   pub len : e .len ≡ ringLen (e .rate)
   pub good : isLength (e .len) ≡ true
-  pub constants : e .m .k ≡ constantsOf (e .rate) (e .reference) (e .clean)
+  pub constants : e .m .k ≡ constantsOf (e .rate) (e .reference) (e .clean) (e .chord)
 
 -- a slot's number and sign
 pub record Placed (e : Prepared) (p : Slot) : Type 0 where

@@ -14,6 +14,7 @@ ghost use Rattle.peak.specs.Running.{runningOf, settledOf, Runs};
 ghost use Rattle.run.specs.Contracts.{Keeps, Widths, recordOf};
 ghost use Rattle.slots.specs.Slots.{engineAt, blockOn, bankAt, blockRun, slotRun, Worked, Placed, Buffers, Lists};
 ghost use Rattle.slots.specs.Slots.{frameIn, slotIn, channelIn};
+use extended::Chord;
 use filter::Pitch;
 use lines::Ring;
 use run::FrameInput;
@@ -136,6 +137,7 @@ pub struct Prepared {
     pub rate: f32,
     pub reference: f32,
     pub clean: bool,
+    pub chord: Chord,
     pub voices: usize,
     pub channels: usize,
     pub cursor: usize,
@@ -188,14 +190,16 @@ fn steering_at(steered: bool, list: &[f32], i: usize) -> f32
     0.0
 }
 
-// One frame of a slot, with the slot's record in hand: how often it judged a ratio greater than its cap. `tuning`, `blended` and `over`
-// hold the numbers kept from frame to frame, `peak` what runs in the peak's place.
+// One frame of a slot, with the slot's record in hand: how often it judged a ratio greater than its cap. `tuning`, `blended`, `over`, `plan`
+// and `teeth` hold the numbers kept from frame to frame, `peak` what runs in the peak's place.
 fn frame(
     e: Prepared,
     sections: &[f32; 320],
     tuning: &mut [f32; 10],
     blended: &mut [f32; 44],
     over: &mut u32,
+    plan: &mut [usize; 65],
+    teeth: &mut [f32; 9],
     targets: &[f32; 11],
     params: &mut [f32; 11],
     state: &mut [f32; 20],
@@ -209,14 +213,15 @@ fn frame(
     f: usize,
 ) -> u32
     requires { ⌜ (Worked e) × (Placed e p) × (Buffers e (now pitch) (now x) (now y) (now delay) (now audio)) × (f < e .frames)
-        × (Widths (now params) (now state)) × (Keeps (e .m) (now sections) (now tuning) (now blended) (now over)) ⌝ }
+        × (Widths (now params) (now state)) × (Keeps (e .m) (e .len) (now sections) (now tuning) (now blended) (now over) (now plan) (now teeth)) ⌝ }
     ensures { λ r. ⌜ ((b : Float) → Runs b (now (peak .entry)) → Runs b (now (peak .exit))
         × ((k : ℕ) → slotRun (now (params .exit)) (now (state .exit)) b (now (peak .exit)) (now (delay .exit)) (now (audio .exit)) (k + r)
         ≡ frameIn e (now (sections .entry)) (now (targets .entry)) (now (pitch .entry)) (now (x .entry)) (now (y .entry)) p f
         (slotRun (now (params .entry)) (now (state .entry)) b (now (peak .entry)) (now (delay .entry)) (now (audio .entry)) k)))
         × (r ≤ 8)
         × (Widths (now (params .exit)) (now (state .exit)))
-        × (Keeps (e .m) (now (sections .entry)) (now (tuning .exit)) (now (blended .exit)) (now (over .exit))) ⌝ }
+        × (Keeps (e .m) (e .len) (now (sections .entry)) (now (tuning .exit)) (now (blended .exit)) (now (over .exit))
+        (now (plan .exit)) (now (teeth .exit))) ⌝ }
 {
     let m = e.m;
     let at = place_at(f, e.slots, p.number, e.frames, audio.len());
@@ -243,6 +248,8 @@ fn frame(
         tuning,
         blended,
         over,
+        plan,
+        teeth,
         targets,
         params,
         state,
@@ -262,6 +269,8 @@ fn run_frames(
     tuning: &mut [f32; 10],
     blended: &mut [f32; 44],
     over: &mut u32,
+    plan: &mut [usize; 65],
+    teeth: &mut [f32; 9],
     targets: &[f32; 11],
     params: &mut [f32; 11],
     state: &mut [f32; 20],
@@ -274,7 +283,7 @@ fn run_frames(
     p: Slot,
 ) -> u32
     requires { ⌜ (Worked e) × (Placed e p) × (Buffers e (now pitch) (now x) (now y) (now delay) (now audio))
-        × (Widths (now params) (now state)) × (Keeps (e .m) (now sections) (now tuning) (now blended) (now over)) ⌝ }
+        × (Widths (now params) (now state)) × (Keeps (e .m) (e .len) (now sections) (now tuning) (now blended) (now over) (now plan) (now teeth)) ⌝ }
     ensures { λ r. ⌜ ((b : Float) → Runs b (now (peak .entry))
         → slotRun (now (params .exit)) (now (state .exit)) b (now (peak .exit)) (now (delay .exit)) (now (audio .exit)) r
         ≡ upto (frameIn e (now (sections .entry)) (now (targets .entry)) (now (pitch .entry)) (now (x .entry)) (now (y .entry)) p) (e .frames)
@@ -290,6 +299,8 @@ fn run_frames(
             tuning,
             blended,
             over,
+            plan,
+            teeth,
             targets,
             params,
             state,
@@ -352,12 +363,16 @@ fn run_slot(
     let mut tuning = [0.0f32 / 0.0; 10];
     let mut blended = [0.0f32 / 0.0; 44];
     let mut over: u32 = 0;
+    let mut plan = [0usize; 65];
+    let mut teeth = [0.0f32 / 0.0; 9];
     let count = run_frames(
         e,
         sections,
         &mut tuning,
         &mut blended,
         &mut over,
+        &mut plan,
+        &mut teeth,
         &goals,
         &mut params,
         &mut state,

@@ -1,4 +1,4 @@
--- The bank's calls on flat lists (document 01, 'A bank is opened' and 'One block goes through'; document 02, C-11, C-12, C-15 to C-17). Definitions only.
+-- The bank's calls on flat lists (document 01, 'A bank is opened' and 'One block goes through'; document 02, C-11, C-12, C-15 to C-18). Definitions only.
 -- What the layers below make of a setup (its checks, targets_of, one tick) is an `Engine`; polyphony is the number n.
 use mathlib.Core.Path.{_≡_}
 use Prim.Native.Nat.{ℕ, _+_, _*_, _%_, _^_, _<_}
@@ -114,12 +114,12 @@ pub record Engine : Type 1 where
   -- cells in a slot's ring, and the structure's mark LINES
   pub ringLength : ℕ
   pub lines : Bool
-  -- refusals 1 to 5 of the setup with n voices
+  -- refusals 1 to 5 of the setup with n voices, then 16 (C-18)
   pub setupCheck : (n : ℕ) → Check
-  -- whether a parked file has words for the setup: its table has two axes (C-17)
+  -- whether a parked file has words for the setup: its table has two axes (C-17), and it has no chord (C-18)
   pub parkable : Bool
   -- of a parked file (C-12): what the reader's checks come to with the lists that it is lent, the bank that it holds, and that its setup is this one,
-  -- as it is heard (C-17), with n voices
+  -- as it is heard (C-17, C-18), with n voices
   pub restoreVerdict : (file : List ℕ) (lent : Bank) → Check
   pub bankIn : (file : List ℕ) → Bank
   pub OwnSetup : (n : ℕ) (file : List ℕ) → Type 0
@@ -210,7 +210,7 @@ module _ (E : Engine) where
     abbrev pub audioIndex : (frame channel voice : ℕ) → ℕ
     audioIndex k c v = k * (channels * n) + slot c v
 
-    -- ---- the refusals of the calls, in the order of the table (A bank is opened); 1 to 5 are `setupCheck`
+    -- ---- the refusals of the calls, in the order of the table (A bank is opened); 1 to 5 and 16 are `setupCheck`
 
     -- 6, of set, which takes targets alone
     abbrev pub targetsCheck : List Float → Check
@@ -257,9 +257,9 @@ module _ (E : Engine) where
     abbrev pub scratchCheck : Bank → Check
     scratchCheck scratch = check (areLong channels ringLength n scratch) 14
 
-    -- 15, of park (C-17): a three-axis table, or a z number whose bits are not all zero
-    abbrev pub axesCheck : Bank → Check
-    axesCheck b = check (parkable && isFlat channels n b) 15
+    -- 15, of park: a three-axis table, or a z number whose bits are not all zero (C-17), or code 13 (C-18)
+    abbrev pub wordsCheck : Bank → Check
+    wordsCheck b = check (parkable && isFlat channels n b) 15
 
     -- each call makes the checks whose values it takes, in that order; audition and park have one of their own after them
     abbrev pub openVerdict : Bank → Check
@@ -272,7 +272,7 @@ module _ (E : Engine) where
     verdict (callSet v s) b = setupCheck n then targetsCheck (b .targets) then voiceCheck v then knobCheck s
     verdict (callStart v) b = setupCheck n then storeCheck b then voiceCheck v
     verdict (callBlock q) b = blockVerdict q b
-    verdict (callPark written) b = setupCheck n then storeCheck b then fileCheck written then axesCheck b
+    verdict (callPark written) b = setupCheck n then storeCheck b then fileCheck written then wordsCheck b
     verdict (callRestore file lent) b = restoreVerdict file lent
     verdict (callAudition q scratch) b = blockVerdict q b then scratchCheck scratch
 

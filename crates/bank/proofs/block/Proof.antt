@@ -31,9 +31,9 @@ numbers c = setup-accepted _ _ (known c .setup)
 
 run-block-requires : tie.Need-run-block-requires
 run-block-requires c κs =
-    let a = c .before .before .before .before .before .before .before .before .before .before .before .before .before .before .before .before .before .before .before .before .before .before .before .before .before .args in
-    let k = known (c .before .before .before .before .before .before .before .before .before .before) in
-    let s = numbers (c .before .before .before .before .before .before .before .before .before .before) in
+    let a = c .before .before .before .before .before .before .before .before .before .before .before .before .before .before .before .before .before .before .before .before .before .before .before .before .before .before .args in
+    let k = known (c .before .before .before .before .before .before .before .before .before .before .before) in
+    let s = numbers (c .before .before .before .before .before .before .before .before .before .before .before) in
     let len = c .before .before .before .before .before .ring-len in
     let wide : ℕ = a .frames * a .setup .voices in (
       record {
@@ -63,13 +63,13 @@ returns c = record { does = rw (refused-by (c .before .before .before .block-che
 returns-2 : tie.Need-returns-2
 unfolding answerOf cursorOf cursorAfter
 returns-2 c =
-    let a = c .before .before .before .before .before .before .before .before .before .before .before .before .before .before .before .before .before .before .before .before .before .before .before .before .before .before .before .before .before .before .before .before .before .before .before .args in
+    let a = c .before .before .before .before .before .before .before .before .before .before .before .before .before .before .before .before .before .before .before .before .before .before .before .before .before .before .before .before .before .before .before .before .before .before .before .before .args in
     let q = blockFrom (a .frames) (now (a .pitch)) (a .steered) (now (a .x)) (now (a .y)) (now (a .audio)) (now (a .counts)) in
     let b = bankOf (now (a .targets)) (now (a .records)) (now (a .delay)) (a .cursor) in
     let w : _≡_ {A = BlockRun} _ (blockOf (engine (a .setup)) (a .setup .voices) q b) = c .before .before .before .before .before .before .before .before .before .run-block .ensures in
     let cur : _≡_ {A = ℕ} _ (cursorAfter (engine (a .setup)) (a .cursor) (a .frames)) = c .cursor-after .ensures in
     record {
-      does = rw (accepted (c .before .before .before .before .before .before .before .before .before .before .before .before .before .before .before .before .before .before .before .before)) (λ i. record { bank = bankOf (now (a .targets)) (w i .records) (w i .delay) (cur i); log = rendered (cur i) (a .frames) (w i .audio) (w i .counts) ∷ [] });
+      does = rw (accepted (c .before .before .before .before .before .before .before .before .before .before .before .before .before .before .before .before .before .before .before .before .before)) (λ i. record { bank = bankOf (now (a .targets)) (w i .records) (w i .delay) (cur i); log = rendered (cur i) (a .frames) (w i .audio) (w i .counts) ∷ [] });
       keeps = λ k e. let z : _≡_ {A = ℕ} 0 1 = cc in absurd (omega arith);
     }
 
@@ -86,7 +86,7 @@ block-spec =
     returns
     (λ c. search needs)
     (λ c κs. tt)
-    (λ c. omega (arith, numbers (c .before .before .before .before) .slots))
+    (λ c. omega (arith, numbers (c .before .before .before .before .before) .slots))
     (λ c κs. tt)
     run-block-requires
     (λ c κs. tt)

@@ -1,4 +1,4 @@
--- `checks::park_check` meets its contract: the checks of open, the list to be written, and then the axes.
+-- `checks::park_check` meets its contract: the checks of open, the list to be written, and then the axes and the code.
 use mathlib.Core.Path.{_≡_, sym, _∙_}
 use borrow.Author.Tests.{eq-eqb, ne-eqb}
 use borrow.Author.Needs.{needs}
@@ -39,10 +39,15 @@ park-check-spec =
     (λ c κs. then-fine _ _ (opened c) .0)
     (λ c. sym (third-refused _ _ _ _ (opened (c .before .before)) (rw (← c .before .file-length .ensures, ne-eqb _ _ (c .if1 .taken)))))
     (λ c. sym (after-three-fine _ _ _ _ (opened (c .before .before .before .before)) (filed (c .before .before)) ∙ rw (c .if2 .taken)))
-    (λ c κs. let told = c .before .before .before .before in ((long-lists told .targets, long-lists told .records), then-fine _ _ (opened told) .0))
     (λ c. let two = c .before .before in
     sym (after-three-fine _ _ _ _ (opened (two .before .before .before .before)) (filed (two .before .before))
-    ∙ rw (two .if2 .left, fails (c .if3 .taken) (c .before .is-flat .ensures))))
-    (λ c. let two = c .before .before in
+    ∙ rw (two .if2 .left, eq-eqb _ _ (c .if3 .taken))))
+    (λ c κs. let told = c .before .before .before .before .before .before in ((long-lists told .targets, long-lists told .records), then-fine _ _ (opened told) .0))
+    (λ c. let other = c .before .before in
+    let two = other .before .before in
     sym (after-three-fine _ _ _ _ (opened (two .before .before .before .before)) (filed (two .before .before))
-    ∙ rw (two .if2 .left, passes (c .if3 .left) (c .before .is-flat .ensures)))))
+    ∙ rw (two .if2 .left, ne-eqb _ _ (other .if3 .left), fails (c .if4 .taken) (c .before .is-flat .ensures))))
+    (λ c. let other = c .before .before in
+    let two = other .before .before in
+    sym (after-three-fine _ _ _ _ (opened (two .before .before .before .before)) (filed (two .before .before))
+    ∙ rw (two .if2 .left, ne-eqb _ _ (other .if3 .left), passes (c .if4 .left) (c .before .is-flat .ensures)))))

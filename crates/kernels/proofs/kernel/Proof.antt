@@ -142,21 +142,30 @@ returns-10 c =
 returns-13 : tie.Need-returns-13
 unfolding kernelOf
 returns-13 c =
+    let s = c .before .before .before .before .before .before .before .before in
+    let key = c .before .before .before .before .before .before .match .keys13 in
+    let e = c .before .before .chord-step .ensures in
+    rw (key, ← c .before .before .before .before .feedback-path .ensures, ← s .pre .2 key .1) (record { sample = e .sample; states = refl; cells = e .cells })
+
+returns-14 : tie.Need-returns-14
+unfolding kernelOf
+returns-14 c =
     let a = c .before .before .args in
     let code = a .code in
     simp (
-      ne-eqb code 1 (c .match .rest .0 .0 .0 .0 .0 .0 .0 .0 .0 .0 .0 .1),
-      ne-eqb code 2 (c .match .rest .0 .0 .0 .0 .0 .0 .0 .0 .0 .0 .1),
-      ne-eqb code 3 (c .match .rest .0 .0 .0 .0 .0 .0 .0 .0 .0 .1),
-      ne-eqb code 4 (c .match .rest .0 .0 .0 .0 .0 .0 .0 .0 .1),
-      ne-eqb code 5 (c .match .rest .0 .0 .0 .0 .0 .0 .0 .1),
-      ne-eqb code 6 (c .match .rest .0 .0 .0 .0 .0 .0 .1),
-      ne-eqb code 7 (c .match .rest .0 .0 .0 .0 .0 .1),
-      ne-eqb code 8 (c .match .rest .0 .0 .0 .0 .1),
-      ne-eqb code 9 (c .match .rest .0 .0 .0 .1),
-      ne-eqb code 10 (c .match .rest .0 .0 .1),
-      ne-eqb code 11 (c .match .rest .0 .1),
-      ne-eqb code 12 (c .match .rest .1),
+      ne-eqb code 1 (c .match .rest .0 .0 .0 .0 .0 .0 .0 .0 .0 .0 .0 .0 .1),
+      ne-eqb code 2 (c .match .rest .0 .0 .0 .0 .0 .0 .0 .0 .0 .0 .0 .1),
+      ne-eqb code 3 (c .match .rest .0 .0 .0 .0 .0 .0 .0 .0 .0 .0 .1),
+      ne-eqb code 4 (c .match .rest .0 .0 .0 .0 .0 .0 .0 .0 .0 .1),
+      ne-eqb code 5 (c .match .rest .0 .0 .0 .0 .0 .0 .0 .0 .1),
+      ne-eqb code 6 (c .match .rest .0 .0 .0 .0 .0 .0 .0 .1),
+      ne-eqb code 7 (c .match .rest .0 .0 .0 .0 .0 .0 .1),
+      ne-eqb code 8 (c .match .rest .0 .0 .0 .0 .0 .1),
+      ne-eqb code 9 (c .match .rest .0 .0 .0 .0 .1),
+      ne-eqb code 10 (c .match .rest .0 .0 .0 .1),
+      ne-eqb code 11 (c .match .rest .0 .0 .1),
+      ne-eqb code 12 (c .match .rest .0 .1),
+      ne-eqb code 13 (c .match .rest .1),
     )
     (record { sample = refl; states = refl; cells = sym (patch-piece (a .at .len) (a .at .slot) (now (a .delay))) })
 
@@ -170,6 +179,7 @@ kernel-spec =
     (λ c. search needs) (λ c. search needs) (λ c κs. tt) (λ c κs. tt) (λ c κs. tt) (λ c. search needs)
     (λ c. search needs) (λ c κs. tt) (λ c κs. c .before .before .before .before .before .before .pre .0) (λ c κs. tt)
     (λ c κs. tt) (λ c κs. tt) (λ c κs. tt) (λ c κs. tt) (λ c. search needs) (λ c. search needs) (λ c. search needs)
-    (λ c κs. tt) (λ c κs. tt)
+    (λ c κs. tt) (λ c κs. tt) (λ c κs. tt)
+    (λ c κs. let s = c .before .before .before .before .before in (s .pre .0, s .pre .2 (c .before .before .before .match .keys13) .0))
     returns returns-2 returns-3 returns-4 returns-5 returns-6 returns-7 returns-8 (λ c. search needs) returns-9
-    returns-10 returns-11 returns-12 returns-13)
+    returns-10 returns-11 returns-12 (λ c. search needs) returns-13 returns-14)

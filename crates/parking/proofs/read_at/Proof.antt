@@ -13,14 +13,14 @@ returns-2 c =
     let read = c .before .before .before .before .before in
     held-refused _ _ _ _ (c .refused-file2 .ensures)
     (setup-says _ _ _ _ (read .before .before .file-word .ensures) (read .before .if1 .left) (read .read-setup .ensures)
-    (refused-by (c .before .before .before .before .setup-check .ensures) (c .before .before .checked .given .1)))
+    (refused-by (c .before .before .before .before .codes-check .ensures) (c .before .before .checked .given .1)))
 
 returns-3 : tie.Need-returns-3
 returns-3 c =
     let read = c .before .before .before .before in
     held-fine _ _ _ _ (read .read-setup .ensures) (c .read-cursor .ensures)
     (setup-says _ _ _ _ (read .before .before .file-word .ensures) (read .before .if1 .left) (read .read-setup .ensures)
-    (fine-by (c .before .before .before .setup-check .ensures) (c .before .enum-told .given .1)))
+    (fine-by (c .before .before .before .codes-check .ensures) (c .before .enum-told .given .1)))
 
 pub read-at-spec : {M : Type 1} → statement M
 read-at-spec =

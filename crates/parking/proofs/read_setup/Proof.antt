@@ -49,13 +49,14 @@ read-table-requires c κs = search needs
 returns : tie.Need-returns
 unfolding setupIn soloIn voicesIn tableIn sectionsIn
 returns c = λ t. record {
-  code = c .before .before .before .before .before .before .before .before .before .before .before .file-word .ensures t;
-  rate = (c .before .before .before .float-of .ensures ∙ ap floatOf (c .before .before .before .before .file-word5 .ensures)) t;
-  reference = (c .before .float-of2 .ensures ∙ ap floatOf (c .before .before .file-word6 .ensures)) t;
-  voices = (c .before .before .before .before .before .before .before .before .before .wide .ensures .0 ∙ c .before .before .before .before .before .before .before .before .before .before .file-word2 .ensures) t;
-  channels = (c .before .before .before .before .before .before .before .wide2 .ensures .0 ∙ c .before .before .before .before .before .before .before .before .file-word3 .ensures) t;
-  clean = (c .before .before .before .before .before .is-one .ensures ∙ ap (λ (x : ℕ). eqb x 1) (c .before .before .before .before .before .before .file-word4 .ensures)) t;
-  table = c .read-table .ensures t;
+  code = c .before .before .before .before .before .before .before .before .before .before .before .before .file-word .ensures t;
+  rate = (c .before .before .before .before .float-of .ensures ∙ ap floatOf (c .before .before .before .before .before .file-word5 .ensures)) t;
+  reference = (c .before .before .float-of2 .ensures ∙ ap floatOf (c .before .before .before .file-word6 .ensures)) t;
+  voices = (c .before .before .before .before .before .before .before .before .before .before .wide .ensures .0 ∙ c .before .before .before .before .before .before .before .before .before .before .before .file-word2 .ensures) t;
+  channels = (c .before .before .before .before .before .before .before .before .wide2 .ensures .0 ∙ c .before .before .before .before .before .before .before .before .before .file-word3 .ensures) t;
+  clean = (c .before .before .before .before .before .before .is-one .ensures ∙ ap (λ (x : ℕ). eqb x 1) (c .before .before .before .before .before .before .before .file-word4 .ensures)) t;
+  table = c .before .read-table .ensures t;
+  chord = c .no-chord .ensures t;
 }
 
 pub read-setup-spec : {M : Type 1} → statement M
@@ -74,4 +75,5 @@ read-setup-spec =
     file-word-requires-6
     float-of-requires-2
     read-table-requires
+    (λ c κs. tt)
     returns)

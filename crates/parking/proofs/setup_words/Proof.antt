@@ -1,12 +1,12 @@
 -- `parking::setup_words` meets its contract. Assumes nothing.
-use mathlib.Core.Path.{_≡_, ap, _∙_}
+use mathlib.Core.Path.{_≡_, refl, sym, ap, _∙_}
 use Prim.Native.Nat.{ℕ, _/_, _%_}
 use mathlib.Core.List.{List, [], _∷_}
 use Rattle.text.specs.Text.{bitsOf}
 use Prim.Native.Nat.{_+_, _-_, _<_}
 use native.Mathlib.Omega.{arith}
 use mathlib.Core.List.{_++_}
-use lib.ListN.{getD}
+use lib.ListN.{length, getD}
 use lib.Ieee.{Float}
 use borrow.Author.Tests.{lt-ltb, le-ltb}
 use Rattle.lane.specs.Floats.{_‼_}
@@ -46,14 +46,18 @@ cast-t15 c = search needs
 slice-aggregate-words-from : tie.Need-slice-aggregate-words-from
 slice-aggregate-words-from c = search needs
 
+-- a table's list of numbers
+sized : (c : tie.Start) → length (c .args .setup .table .sections) ≡ 320
+sized c = search needs
+
 slice-aggregate-words-from-2 : tie.Need-slice-aggregate-words-from-2
-slice-aggregate-words-from-2 c = search needs
+slice-aggregate-words-from-2 c = sym (sized (c .before .before .before .before .before .before .before .before .before .before))
 
 word-of-requires-3 : tie.Need-word-of-requires-3
 word-of-requires-3 c κs = search needs
 
 words-from-requires : tie.Need-words-from-requires
-words-from-requires c κs = search needs
+words-from-requires c κs = let start = c .before .before .before .before .before .before .before .before .before .before .before .before in (refl, sized start, start .pre .2)
 
 same-length : tie.Need-same-length
 same-length c = search needs

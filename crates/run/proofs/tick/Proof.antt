@@ -17,7 +17,7 @@ returns : tie.Need-returns
 unfolding offsetOf
 returns c =
     let kernel = c .before .before .before .before .before .kernel-tick .ensures in
-    let steer2 = c .before .before .before .before .before .before .before .before .before .before .before .before in
+    let steer2 = c .before .before .before .before .before .before .before .before .before .before .before .before .before .before in
     let steer1 = steer2 .before .before in
     let smooth = steer1 .before .before .before .before .before in
     let start = smooth .before .before .before .before .before in
@@ -43,5 +43,5 @@ tick-spec =
     tie.close
     (tie.spec
     (λ c κs. tt) (λ c. search needs) (λ c. search needs) (λ c κs. tt) (λ c. search needs) (λ c κs. tt)
-    (λ c κs. let s = c .before .before .before .before .before .before .before .before .before .before .before .before .before .before .before .before .before .before in (s .pre .1, s .pre .2))
+    (λ c κs. let s = c .before .before .before .before .before .before .before .before .before .before .before .before .before .before .before .before .before .before .before .before in (s .pre .1, s .pre .2))
     (λ c κs. tt) (λ c κs. tt) (λ c. search needs) returns)

@@ -12,7 +12,7 @@ use Rattle.slots.proofs.frame.Tie as tie
 
 tick-requires : tie.Need-tick-requires
 tick-requires c κs =
-    let s = c .before .before .before .before .before .before .before .before .before .before .before .before .before .before .before .before .before .before .before .before in
+    let s = c .before .before .before .before .before .before .before .before .before .before .before .before .before .before .before .before .before .before .before .before .before .before in
     let e = s .args .e in
     let p = s .args .p in (
       s .pre .4,
@@ -23,11 +23,11 @@ tick-requires c κs =
 returns : tie.Need-returns
 unfolding cursorAfter
 returns c =
-    let s = c .before .before .before .before .before .before .before .before .before .before .before .before .before .before .before .before .before .before .before .before .before .before .before in
+    let s = c .before .before .before .before .before .before .before .before .before .before .before .before .before .before .before .before .before .before .before .before .before .before .before .before .before in
     let a = s .args in
-    let at = c .before .before .before .before .before .before .before .before .before .before .before .before .before .before .before .before .place-at in
-    let from = c .before .before .before .before .before .before .before .before .before .before .before .before .before .before .before .place-at2 in
-    let cursor = c .before .before .before .before .before .before .before .before .before .before .before .before .before .before .cursor-after in
+    let at = c .before .before .before .before .before .before .before .before .before .before .before .before .before .before .before .before .before .before .place-at in
+    let from = c .before .before .before .before .before .before .before .before .before .before .before .before .before .before .before .before .before .place-at2 in
+    let cursor = c .before .before .before .before .before .before .before .before .before .before .before .before .before .before .before .before .cursor-after in
     let tick = c .before .before .tick .ensures in (
       λ b runs. (
         tick .0 b runs .0,
@@ -35,7 +35,7 @@ returns c =
             (slotRun (now (a .params)) (now (a .state)) b (now (a .peak)) (now (a .delay)) (now (a .audio)) k) (s .pre .0) (s .pre .1)
             (at .result) (from .result) (cursor .result) _ _ _ _ _
             (at .ensures .0) (from .ensures .0) (cursor .ensures)
-            (c .before .before .before .before .before .before .before .before .before .before .before .before .before .steering-at .ensures) (c .before .before .before .before .before .before .before .before .before .before .before .before .steering-at2 .ensures)
+            (c .before .before .before .before .before .before .before .before .before .before .before .before .before .before .before .steering-at .ensures) (c .before .before .before .before .before .before .before .before .before .before .before .before .before .before .steering-at2 .ensures)
             (tick .0 b runs .1),
       ),
       tick .1,
@@ -52,13 +52,13 @@ frame-spec =
     (λ c κs. tt)
     (λ c κs e. let s = c .before .before .before .before .before .before .before .before .before in omega (arith, c .before .place-at2 .ensures .1, s .pre .2 .pitch, s .pre .2 .x e))
     (λ c κs e. let s = c .before .before .before .before .before .before .before .before .before .before in omega (arith, c .before .before .place-at2 .ensures .1, s .pre .2 .pitch, s .pre .2 .y e))
-    (λ c. omega (arith, c .before .before .before .place-at2 .ensures .1, c .before .before .before .before .before .before .before .before .before .before .before .good .1 .1 .1 .1 .1 .1 .1 .1 .1 .1 .0))
+    (λ c. omega (arith, c .before .before .before .place-at2 .ensures .1, c .before .before .before .before .before .before .before .before .before .before .before .good .1 .1 .1 .1 .1 .1 .1 .1 .1 .1 .1 .1 .0))
     (λ c. omega (arith, c .before .before .before .before .place-at2 .ensures .1))
-    (λ c. omega (arith, c .before .before .before .before .before .place-at .ensures .1, c .before .before .before .before .before .before .before .before .before .before .before .before .good .1 .1 .1 .1 .1 .1 .1 .1 .1 .1 .1 .1 .1 .0))
+    (λ c. omega (arith, c .before .before .before .before .before .place-at .ensures .1, c .before .before .before .before .before .before .before .before .before .before .before .before .good .1 .1 .1 .1 .1 .1 .1 .1 .1 .1 .1 .1 .1 .1 .1 .0))
     (λ c. omega (arith, c .before .before .before .before .before .before .place-at .ensures .1))
     tick-requires
-    (λ c. omega (arith, c .before .before .before .before .before .before .before .before .before .before .before .before .before .before .before .before .place-at .ensures .1, c .before .before .before .before .before .before .before .before .before .before .before .before .before .before .before .before .before .before .before .before .before .before .before .good .1 .1 .1 .1 .1 .1 .1 .1 .1 .1 .1 .1 .1 .0))
-    (λ c. omega (arith, c .before .before .before .before .before .before .before .before .before .before .before .before .before .before .before .before .place-at .ensures .1, c .before .before .before .before .before .before .before .before .before .before .before .before .before .before .before .before .before .before .before .before .before .before .before .good .1 .1 .1 .1 .1 .1 .1 .1 .1 .1 .1 .1 .1 .0))
+    (λ c. omega (arith, c .before .before .before .before .before .before .before .before .before .before .before .before .before .before .before .before .before .before .place-at .ensures .1, c .before .before .before .before .before .before .before .before .before .before .before .before .before .before .before .before .before .before .before .before .before .before .before .before .before .good .1 .1 .1 .1 .1 .1 .1 .1 .1 .1 .1 .1 .1 .1 .1 .0))
+    (λ c. omega (arith, c .before .before .before .before .before .before .before .before .before .before .before .before .before .before .before .before .before .before .place-at .ensures .1, c .before .before .before .before .before .before .before .before .before .before .before .before .before .before .before .before .before .before .before .before .before .before .before .before .before .good .1 .1 .1 .1 .1 .1 .1 .1 .1 .1 .1 .1 .1 .1 .1 .0))
     (λ c. omega arith)
     (λ c. simp length-set)
     returns)

@@ -17,7 +17,7 @@ use Rattle.slots.proofs.run_frames.Statement.{statement}
 use Rattle.slots.proofs.run_frames.Tie as tie
 
 abbrev Inv-loop : tie.InvT-loop
-Inv-loop e sections tuning₀ blended₀ over₀ targets params₀ state₀ peak₀ delay₀ pitch x y audio₀ p frames count₀ f₀ tuning blended over params state peak delay audio count f =
+Inv-loop e sections tuning₀ blended₀ over₀ plan₀ teeth₀ targets params₀ state₀ peak₀ delay₀ pitch x y audio₀ p frames count₀ f₀ tuning blended over plan teeth params state peak delay audio count f =
     (f ≤ e .frames)
     × ((b : Float) → Runs b peak₀ → Runs b peak
     × (slotRun params state b peak delay audio count ≡ upto (frameIn e sections targets pitch x y p) f (slotRun params₀ state₀ b peak₀ delay₀ audio₀ 0)))
@@ -25,20 +25,20 @@ Inv-loop e sections tuning₀ blended₀ over₀ targets params₀ state₀ peak
     × (length delay ≡ length delay₀)
     × (length audio ≡ length audio₀)
     × Widths params state
-    × Keeps (e .m) sections tuning blended over
+    × Keeps (e .m) (e .len) sections tuning blended over plan teeth
 
 abbrev μ-loop : tie.MeasureT-loop
-μ-loop e sections tuning₀ blended₀ over₀ targets params₀ state₀ peak₀ delay₀ pitch x y audio₀ p frames count₀ f₀ tuning blended over params state peak delay audio count f = e .frames - f
+μ-loop e sections tuning₀ blended₀ over₀ plan₀ teeth₀ targets params₀ state₀ peak₀ delay₀ pitch x y audio₀ p frames count₀ f₀ tuning blended over plan teeth params state peak delay audio count f = e .frames - f
 
 frame-requires : tie.Need-frame-requires Inv-loop μ-loop
 frame-requires c κs =
-    let s = c .before .before .before .before .before .before .before .before .before .before .before .before .before .before .before in
-    let l = c .before .before .before .before .before .before .before .before .before .loop in
+    let s = c .before .before .before .before .before .before .before .before .before .before .before .before .before .before .before .before .before in
+    let l = c .before .before .before .before .before .before .before .before .before .before .before .loop in
     let q = s .pre .2 in (
       s .pre .0,
       s .pre .1,
       record { pitch = q .pitch; x = q .x; y = q .y; delay = l .inv .3 ∙ q .delay; audio = l .inv .4 ∙ q .audio },
-      c .before .before .before .before .before .before .before .before .loop-test .taken,
+      c .before .before .before .before .before .before .before .before .before .before .loop-test .taken,
       l .inv .5,
       l .inv .6,
     )
@@ -48,16 +48,16 @@ add-count : tie.Need-add-count Inv-loop μ-loop
 add-count c =
     omega (
       arith,
-      c .before .before .before .before .before .before .before .before .before .before .before .before .before .before .loop .inv .2,
+      c .before .before .before .before .before .before .before .before .before .before .before .before .before .before .before .before .loop .inv .2,
       c .before .before .before .before .frame .ensures .1,
-      c .before .before .before .before .before .before .before .before .before .before .before .before .before .loop-test .taken,
-      c .before .before .before .before .before .before .before .before .before .before .before .before .before .before .before .before .before .before .before .before .pre .0 .frames,
+      c .before .before .before .before .before .before .before .before .before .before .before .before .before .before .before .loop-test .taken,
+      c .before .before .before .before .before .before .before .before .before .before .before .before .before .before .before .before .before .before .before .before .before .before .pre .0 .frames,
     )
 
 loop-again : tie.Need-loop-again Inv-loop μ-loop
 loop-again c =
-    let a = c .before .before .before .before .before .before .before .before .before .before .before .before .before .before .before .before .before .before .before .before .args in
-    let l = c .before .before .before .before .before .before .before .before .before .before .before .before .before .before .loop in
+    let a = c .before .before .before .before .before .before .before .before .before .before .before .before .before .before .before .before .before .before .before .before .before .before .args in
+    let l = c .before .before .before .before .before .before .before .before .before .before .before .before .before .before .before .before .loop in
     let frame = c .before .before .before .before .frame .ensures in
     let g : ℕ → SlotRun → SlotRun = frameIn (a .e) (now (a .sections)) (now (a .targets)) (now (a .pitch)) (now (a .x)) (now (a .y)) (a .p) in (
       omega arith,
@@ -91,7 +91,7 @@ run-frames-spec =
     (λ c. (zero-le, λ b runs. (runs, refl), zero-le, refl, refl, c .before .before .before .before .before .pre .3, c .before .before .before .before .before .pre .4))
     frame-requires
     add-count
-    (λ c. omega (arith, c .before .before .before .before .before .before .before .before .before .before .before .before .before .loop-test .taken, c .before .before .before .before .before .before .before .before .before .before .before .before .before .before .before .before .before .before .before .before .pre .0 .frames))
+    (λ c. omega (arith, c .before .before .before .before .before .before .before .before .before .before .before .before .before .before .before .loop-test .taken, c .before .before .before .before .before .before .before .before .before .before .before .before .before .before .before .before .before .before .before .before .before .before .pre .0 .frames))
     (λ c. omega arith)
     loop-again
     (λ c. omega arith)

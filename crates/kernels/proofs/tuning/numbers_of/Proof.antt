@@ -20,14 +20,19 @@ returns-3 c = rw (c .before .match .keys3) (c .judged-comb .ensures)
 
 returns-4 : tie.Need-returns-4
 unfolding numbersOf tunedOver
-returns-4 c =
+returns-4 c = rw (c .before .match .keys4) (c .judged-chord .ensures)
+
+returns-5 : tie.Need-returns-5
+unfolding numbersOf tunedOver
+returns-5 c =
     let code = c .before .before .args .code in
     simp (
-      ne-eqb code 2 (c .before .match .rest .0 .0 .1),
-      ne-eqb code 8 (c .before .match .rest .0 .1),
-      ne-eqb code 9 (c .before .match .rest .1),
+      ne-eqb code 2 (c .before .match .rest .0 .0 .0 .1),
+      ne-eqb code 8 (c .before .match .rest .0 .0 .1),
+      ne-eqb code 9 (c .before .match .rest .0 .1),
+      ne-eqb code 13 (c .before .match .rest .1),
     )
     (c .judged-gain .ensures)
 
 pub numbers-of-spec : {M : Type 1} → statement M
-numbers-of-spec = tie.close (tie.spec (λ c κs. tt) (λ c κs. tt) (λ c κs. tt) (λ c κs. tt) returns returns-2 returns-3 returns-4)
+numbers-of-spec = tie.close (tie.spec (λ c κs. tt) (λ c κs. tt) (λ c κs. tt) (λ c κs. tt) (λ c κs. tt) returns returns-2 returns-3 returns-4 returns-5)

@@ -14,8 +14,8 @@ returns c =
     let a = s .args in
     let key = c .before .is-tuned .ensures (c .if1 .taken) in
     let kept = s .pre (key .number) in (
-      kept .0 ∙ (λ i. tuningOf (a .code) (record { 0 = key .pitch-is i }) (keyOf (a .reference) (key .character-is i))),
-      kept .1 ∙ (λ i. tunedOver (a .code) (record { 0 = key .pitch-is i }) (keyOf (a .reference) (key .character-is i)) (now (a .over))),
+      kept .0 ∙ (λ i. tuningOf (a .code) (record { 0 = key .pitch-is i }) (keyOf (a .reference) (a .chord) (key .character-is i))),
+      kept .1 ∙ (λ i. tunedOver (a .code) (record { 0 = key .pitch-is i }) (keyOf (a .reference) (a .chord) (key .character-is i)) (now (a .over))),
     )
 
 returns-2 : tie.Need-returns-2

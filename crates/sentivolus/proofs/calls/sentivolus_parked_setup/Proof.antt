@@ -8,9 +8,9 @@ use Rattle.sentivolus.proofs.calls.sentivolus_parked_setup.Tie as tie
 
 returns : tie.Need-returns
 returns c =
-    let read = c .before .before .before .before .before .before .before .before .before .before .before .before .before .before in
+    let read = c .before .before .before .before .before .before .before .before .before .before .before .before .before .before .before .before in
     setup-left _ _ _ _ (read .parked-setup .result) _ _ _ (read .parked-setup .ensures) (c .held-number .ensures)
-    (c .before .before .put-setup .ensures ∙ c .before .before .before .before .before .before .before .before .before .before .before .before .before .setup-left .ensures ∙ ap (λ (s : Setup). setupLeft (read .parked-setup .result) s) (read .before .before .setup-of .ensures))
+    (c .before .before .put-setup .ensures ∙ c .before .before .before .before .before .before .before .before .before .before .before .before .before .before .before .setup-left .ensures ∙ ap (λ (s : Setup). setupLeft (read .parked-setup .result) s) (read .before .before .setup-of .ensures))
     (c .before .cursor-left .ensures)
 
 pub sentivolus-parked-setup-spec : {M : Type 1} → statement M

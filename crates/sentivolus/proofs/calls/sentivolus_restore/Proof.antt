@@ -9,9 +9,9 @@ use Rattle.sentivolus.proofs.calls.sentivolus_restore.Tie as tie
 
 returns : tie.Need-returns
 returns c =
-    let read = c .before .before .before .before .before .before .before .before .before .before .before .before .before .before .before .before .before .before .before .before in
+    let read = c .before .before .before .before .before .before .before .before .before .before .before .before .before .before .before .before .before .before .before .before .before .before in
     restore-left _ _ _ _ (read .restore .result) _ _ _ _ _ _ (read .restore .ensures) (c .held-number .ensures)
-    (c .before .before .put-setup .ensures ∙ c .before .before .before .before .before .before .before .before .before .before .before .before .before .setup-left .ensures ∙ ap (λ (s : Setup). setupLeft (read .restore .result) s) (read .before .before .before .before .before .setup-of .ensures))
+    (c .before .before .put-setup .ensures ∙ c .before .before .before .before .before .before .before .before .before .before .before .before .before .before .before .setup-left .ensures ∙ ap (λ (s : Setup). setupLeft (read .restore .result) s) (read .before .before .before .before .before .setup-of .ensures))
     (c .before .cursor-left .ensures)
 
 pub sentivolus-restore-spec : {M : Type 1} → statement M
