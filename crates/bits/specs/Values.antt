@@ -2,9 +2,9 @@
 -- A number is written in one way: of one sign and one size, two values that a format holds are the same value. By their patterns, which
 -- go by sign and size alone. Assumes nothing.
 use mathlib.Core.Path.{_≡_, refl, sym, ap, _∙_, subst}
-use mathlib.Core.Bool.{Bool, true, false, cond, _||_, Bool·beq}
+use mathlib.Core.Bool.{Bool, true, false, not, cond, _||_, Bool·beq}
 use Prim.Native.Nat.{ℕ, zero, suc, _+_, _-_, _*_, _/_, _^_, _<_}
-use native.Mathlib.Nat.{mul-assoc, mul-comm, mul-one, mul-pos, zero-mul}
+use native.Mathlib.Nat.{mul-assoc, mul-comm, mul-one, one-mul, mul-pos, zero-mul, zero-add}
 use native.Mathlib.Omega.{arith}
 use lib.IntN.{ℤ, pos}
 use lib.Dec.{T, eqb, eqb→eq, lit<}
@@ -13,6 +13,7 @@ use lib.Ieee.Bits.{ofBits-toBits}
 use lib.Ieee.Exact.{HasValue, round-exact}
 use lib.Ieee.Fits.{up-pos, down-pos, and-l, and-r, add-fits, neg-fits, round-fits}
 use lib.Ieee.Nearest.{div-same}
+use lib.Ieee.Scale.{round-same}
 use Rattle.bits.specs.Zeros.{Zero, zero-factor, zero-product, alike, zero-plus}
 
 -- in units of a scale w the two sizes are one fraction
@@ -56,16 +57,19 @@ equal-same f (fin s m e) (fin t n d) p q h z =
     go false g w k =
         absurd (z (zero-factor n (up d) (up-pos d) (zero-factor (n * up d) (down e) (down-pos e) (sym w ∙ eqb→eq (m * up e * down d) 0 k))))
 
--- a zero less a number that is no zero is that number with the other sign
+-- a zero plus a number that is no zero is that number; less it, the number with the other sign
+pub zero-first : (z s : Bool) (m : ℕ) (e : ℤ) → T (fits binary32 (fin s (suc m) e))
+    → add binary32 (fin z 0 (pos 0)) (fin s (suc m) e) ≡ fin s (suc m) e
+zero-first z s m e h =
+    let y : Float = fin s (suc m) e in
+    equal-same binary32 (add binary32 (fin z 0 (pos 0)) y) y (add-fits binary32 (fin z 0 (pos 0)) y) h
+    (zero-plus (fin z 0 (pos 0)) y refl h tt)
+    (λ (k : suc m ≡ 0). omega arith)
+
 pub zero-less : (z s : Bool) (m : ℕ) (e : ℤ) → T (fits binary32 (fin s (suc m) e))
     → sub binary32 (fin z 0 (pos 0)) (fin s (suc m) e) ≡ neg (fin s (suc m) e)
 unfolding sub neg
-zero-less z s m e h =
-    let y : Float = neg (fin s (suc m) e) in
-    let f : T (fits binary32 y) = neg-fits binary32 (fin s (suc m) e) h in
-    equal-same binary32 (add binary32 (fin z 0 (pos 0)) y) y (add-fits binary32 (fin z 0 (pos 0)) y) f
-    (zero-plus (fin z 0 (pos 0)) y refl f tt)
-    (λ (k : suc m ≡ 0). omega arith)
+zero-less z s m e h = zero-first z (not s) m e (neg-fits binary32 (fin s (suc m) e) h)
 
 -- a zero has the exponent 0
 pub zero-fits : (f : Format) (s : Bool) → T (fits f (fin s 0 (pos 0)))
@@ -131,3 +135,24 @@ zero-hidden z s (fin u zero e) a h =
     subst (λ (p : Float). glided z p a ≡ glided s p a) (sym (zero-form binary32 u e h)) (from-zero z s u a)
 zero-hidden z s (fin u (suc m) e) a h =
     ap (λ (k : Float). add binary32 (mul binary32 k a) (fin u (suc m) e)) (zero-less z u m e h ∙ sym (zero-less s u m e h))
+
+-- ---- an f32 times 1 is that f32
+
+-- the fraction of a product with 1 is that of a sum with a zero
+scaled : (s : Bool) (p d : ℕ) → 0 < d → round binary32 s (p * (1 * 1)) (d * 1) ≡ round binary32 s (0 * 1 * d + p * 1) (1 * d)
+scaled s p d D =
+    round-same binary32 s (p * (1 * 1)) (d * 1) (0 * 1 * d + p * 1) (1 * d) (mul-pos D (lit< tt)) (mul-pos (lit< tt) D)
+    (simp (mul-one, one-mul, zero-mul, zero-add))
+
+pub times-one : (x : Float) → T (fits binary32 x) → mul binary32 x (fin false 1 (pos 0)) ≡ x
+unfolding mul add sum round
+times-one nan h = refl
+times-one (inf true) h = refl
+times-one (inf false) h = refl
+times-one (fin s zero e) h = subst (λ (x : Float). mul binary32 x (fin false 1 (pos 0)) ≡ x) (sym (zero-form binary32 s e h)) (of-zero s)
+  where
+    of-zero : (s : Bool) → mul binary32 (fin s 0 (pos 0)) (fin false 1 (pos 0)) ≡ fin s 0 (pos 0)
+    of-zero true = refl
+    of-zero false = refl
+times-one (fin true (suc m) e) h = scaled true (suc m * up e) (down e) (down-pos e) ∙ zero-first true true m e h
+times-one (fin false (suc m) e) h = scaled false (suc m * up e) (down e) (down-pos e) ∙ zero-first false false m e h

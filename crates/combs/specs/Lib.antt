@@ -2,5 +2,4 @@
 pub mod Combs
 pub mod Contracts
 pub mod Ends
-pub mod Ones
 pub mod AsComb2

@@ -12,7 +12,7 @@ use Rattle.filter.specs.declared.Pitch.{Pitch}
 use Rattle.filter.specs.declared.Ratio.{Ratio}
 use Rattle.extended.specs.declared.Chord.{Chord}
 use Rattle.extended.specs.declared.Settings.{Settings}
-use Rattle.teeth.specs.Contracts.{Widths, Planned}
+use Rattle.teeth.specs.Contracts.{Widths, Planned, PlannedFor}
 use Rattle.combs.specs.Combs.{combRatio}
 use Rattle.pole_zero.specs.declared.Table.{Table}
 use Rattle.poles.specs.declared.Series.{Series}
@@ -48,7 +48,7 @@ pub record KeptTeeth (len : ℕ) (chord : Chord) (plan : List ℕ) (teeth : List
 
 -- of code 13 the plan is that of a pitch and settings
 abbrev pub PlannedAt : (code len : ℕ) → Pitch → Settings → (plan : List ℕ) (teeth : List Float) → Type 0
-PlannedAt code len pitch p plan teeth = code ≡ 13 → Planned len (p .chord) plan teeth × (teeth ‼ 8 ≡ combRatio pitch p)
+PlannedAt code len pitch p plan teeth = code ≡ 13 → PlannedFor len (p .chord) (combRatio pitch p) plan teeth
 
 -- a list's key is this one, and no NaN
 pub record TunedAt (t : List Float) (pitch character : Float) : Type 0 where

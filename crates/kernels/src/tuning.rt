@@ -7,9 +7,9 @@ ghost use Prim.Native.Nat.{_+_};
 ghost use Rattle.filter.specs.Filter.{gainOf, overOf, once};
 ghost use Rattle.sweeps.specs.Sweeps.{djCoefficients, djOver};
 ghost use Rattle.combs.specs.Combs.{combCoefficients, combOver, combRatio, chordOver};
-ghost use Rattle.lane.specs.Floats.{_‼_, zero};
+ghost use Rattle.lane.specs.Floats.{zero};
 ghost use Rattle.lines.specs.Lines.{isLength};
-ghost use Rattle.teeth.specs.Contracts.{Planned};
+ghost use Rattle.teeth.specs.Contracts.{PlannedFor};
 ghost use Rattle.kernels.specs.Tuning.{threeNumbers, djNumbers, rowNumbers, drivenNumbers, combNumbers, bandNumbers};
 ghost use Rattle.kernels.specs.Tuning.{multimodeNumbers, k35Numbers, gainNumbers, numbersOf, tuningOf, tunedOver, keyOf};
 ghost use Rattle.kernels.specs.Tuning.{blendedOf, blendedOver};
@@ -306,7 +306,7 @@ pub fn replan(
 )
     requires { ⌜ (isLength len ≡ true) × (KeptTeeth len chord (now plan) (now teeth)) ⌝ }
     ensures { λ _. ⌜ (KeptTeeth len chord (now (plan .exit)) (now (teeth .exit)))
-        × (code ≡ 13 → Planned len chord (now (plan .exit)) (now (teeth .exit)) × (now (teeth .exit) ‼ 8 ≡ ratio)) ⌝ }
+        × (code ≡ 13 → PlannedFor len chord ratio (now (plan .exit)) (now (teeth .exit))) ⌝ }
 {
     if code != 13 {
         return;

@@ -15,7 +15,7 @@ use Rattle.kernels.specs.Kernels.{overCount}
 use Rattle.kernels.specs.Tuning.{tuningOf, tunedOver, keyOf, blendedOf, blendedOver}
 use Rattle.kernels.specs.Contracts.{KeptSections, KeptTeeth, PlannedAt, Tuned}
 use Rattle.kernels.specs.Keeping.{key-numbers, key-over, ratio-is, over-is, sections-pass, kept, blended-at, blended-kept}
-use Rattle.teeth.specs.Contracts.{Planned}
+use Rattle.teeth.specs.Contracts.{Planned, PlannedFor}
 use Rattle.run.specs.declared.Controls.{Controls}
 use Rattle.run.specs.declared.Structure.{Structure}
 use Rattle.run.specs.Run.{settingsOf}
@@ -64,7 +64,7 @@ module _ (m : Structure) (sections params : List Float) (at : Controls) (p : Set
 
       -- the plan is that of the pitch and the settings
       pub planned-at : (len : ℕ) (plan : List ℕ) (teeth : List Float)
-          → (m .code ≡ 13 → Planned len (m .k .chord) plan teeth × (teeth ‼ 8 ≡ tuning ‼ 0)) → PlannedAt (m .code) len pitch p plan teeth
+          → (m .code ≡ 13 → PlannedFor len (m .k .chord) (tuning ‼ 0) plan teeth) → PlannedAt (m .code) len pitch p plan teeth
       planned-at len plan teeth h k =
           (subst (λ (q : Chord). Planned len q plan teeth) (sym chord-is) (h k .0), h k .1 ∙ ratio-is (m .code) tuning pitch p (tuned ∙ key-settings pitch) k)
 

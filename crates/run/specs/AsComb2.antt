@@ -1,52 +1,39 @@
 -- "With offsets 0 and twice the smoothed character, a tick equals Comb2's" (document 02, C-18): a whole frame, its sample, record, ring and count,
 -- and the cursor. Assumes nothing.
 use mathlib.Core.Path.{_≡_, refl, ap}
-use mathlib.Core.Bool.{Bool}
 use mathlib.Core.List.{List}
 use Prim.Native.Nat.{ℕ}
 use lib.ListN.{take, drop}
 use lib.Ieee.{Float}
-use Rattle.lane.specs.Floats.{_⊗_, _‼_, two}
-use Rattle.lane.specs.Order.{zeroOf}
+use Rattle.lane.specs.Floats.{_‼_}
 use Rattle.filter.specs.Voice.{CHARACTER}
-use Rattle.extended.specs.declared.Chord.{Chord}
 use Rattle.extended.specs.Extended.{settingsAt, smoothMark, linesMark}
 use Rattle.pole_zero.specs.declared.Table.{Table}
-use Rattle.combs.specs.AsComb2.{AsComb2, step-as-comb, over-as-comb}
+use Rattle.combs.specs.AsComb2.{TwoTeeth, step-as-comb, over-as-comb}
 use Rattle.kernels.specs.Kernels.{onRing, kernelOf, overCount}
 use Rattle.voices.specs.Calls.{Steering, smoothedWidth, statesWidth}
 use Rattle.run.specs.declared.Constants.{Constants}
 use Rattle.run.specs.declared.Controls.{Controls}
 use Rattle.run.specs.Run.{smoothOf, controlsOf, controlsAfter, stateAfter, drivenOf, settingsOf, smoothedIn, kernelTick, overTick, tickWith}
 
--- two teeth: offset 0, of either sign, and twice the smoothed character
-pub record TwoTeeth (c : Chord) (params : List Float) : Type 0 where
-  pub count-is : c .count ≡ 2
-  pub sign : Bool
-  pub first : c .offsets ‼ 0 ≡ zeroOf sign
-  pub second : c .offsets ‼ 1 ≡ params ‼ CHARACTER ⊗ two
-
-module _ (k : Constants) (t : Table) (params : List Float) (h : TwoTeeth (k .chord) params) (state : List Float) (at : Controls) where
-  as-comb : AsComb2 (settingsOf k params at)
-  unfolding settingsAt
-  as-comb = record { two-teeth = h .count-is; sign = h .sign; first = h .first; second = h .second }
-
+module _ (k : Constants) (t : Table) (params : List Float) (h : TwoTeeth (k .chord) (params ‼ CHARACTER)) (state : List Float) (at : Controls) where
   kernel-as-comb : (len cursor : ℕ) (input : Float) (ring : List Float)
       → kernelTick 13 k t len cursor params state at input ring ≡ kernelTick 9 k t len cursor params state at input ring
-  unfolding kernelTick kernelOf controlsAfter stateAfter smoothMark
+  unfolding kernelTick kernelOf controlsAfter stateAfter smoothMark settingsAt
   kernel-as-comb len cursor input ring =
-      ap (onRing state) (step-as-comb (record { 0 = at .pitch }) (settingsOf k params at) as-comb len cursor ring (drivenOf k params input))
+      ap (onRing state) (step-as-comb (record { 0 = at .pitch }) (settingsOf k params at) h len cursor ring (drivenOf k params input))
 
   count-as-comb : overTick 13 k t params state at ≡ overTick 9 k t params state at
-  unfolding overTick overCount controlsAfter smoothMark
-  count-as-comb = over-as-comb (record { 0 = at .pitch }) (settingsOf k params at) as-comb
+  unfolding overTick overCount controlsAfter smoothMark settingsAt
+  count-as-comb = over-as-comb (record { 0 = at .pitch }) (settingsOf k params at) h
 
 module _ (k : Constants) (t : Table) (len : ℕ) (sign : Float) (targets : List Float) (cursor : ℕ) (pitch input : Float) (st : Steering)
     (rec ring : List Float) where
   abbrev smoothed : List Float
   smoothed = smoothOf (k .alpha) targets (smoothedIn rec)
 
-  pub tick-as-comb : TwoTeeth (k .chord) smoothed
+  -- offsets 0 and twice the smoothed character
+  pub tick-as-comb : TwoTeeth (k .chord) (smoothed ‼ CHARACTER)
       → tickWith 13 k t len sign targets cursor pitch input st rec ring ≡ tickWith 9 k t len sign targets cursor pitch input st rec ring
   unfolding tickWith
   tick-as-comb h =

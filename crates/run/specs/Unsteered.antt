@@ -11,8 +11,7 @@ use lib.IntN.{ℤ, pos}
 use lib.Dec.{T, ltb, ltb→lt, nltb→le}
 use lib.Ieee.{Float, nan, inf, fin, Format, binary32, up, down, round, sum, add, lt, isNan, fits}
 use lib.Ieee.Fits.{add-fits}
-use Rattle.bits.specs.Zeros.{zero-plus}
-use Rattle.bits.specs.Values.{equal-same, zero-form}
+use Rattle.bits.specs.Values.{zero-first, zero-form}
 use Rattle.lane.specs.Floats.{_⊕_, _‼_, zero as plusZero}
 use Rattle.lane.specs.Lane.{isBelow, maxOf, minOf}
 use Rattle.filter.specs.Voice.{«MORPH_X», «MORPH_Y»}
@@ -58,11 +57,7 @@ add-either s m e t n d =
 
 -- ---- a number that is no zero, and +0
 with-zero : (s : Bool) (m : ℕ) (e : ℤ) → T (fits binary32 (fin s (suc m) e)) → fin s (suc m) e ⊕ fin false 0 (pos 0) ≡ fin s (suc m) e
-with-zero s m e h =
-    let x : Float = fin s (suc m) e in
-    let z : Float = fin false 0 (pos 0) in
-    add-either s (suc m) e false 0 (pos 0)
-    ∙ equal-same binary32 (z ⊕ x) x (add-fits binary32 z x) h (zero-plus z x refl h tt) (λ (k : suc m ≡ 0). omega arith)
+with-zero s m e h = add-either s (suc m) e false 0 (pos 0) ∙ zero-first false s m e h
 
 -- ---- a morph number steered by +0
 pub unit-zero : (x : Float) → T (fits binary32 x) → unitOr0 (x ⊕ plusZero) ≡ unitOr0 x

@@ -8,7 +8,7 @@ use lib.Ieee.{Float}
 use Rattle.lane.specs.Floats.{_⊖_, _‼_, whole}
 use Rattle.lines.specs.Lines.{wholePart, held}
 use Rattle.extended.specs.declared.Chord.{Chord}
-use Rattle.teeth.specs.Teeth.{teethOf, toothDelay, toothFirst, cellsNeeded, chordRead, chordSize}
+use Rattle.teeth.specs.Teeth.{teethOf, toothDelay, toothFirst, cellsNeeded, tapsMean, chordRead, chordSize}
 
 -- ---- a plan: 32 cells' steps back, where each tooth's four stand among them, and how many they are
 abbrev pub planAt : List ℕ → ℕ → ℕ
@@ -19,6 +19,10 @@ placeOf plan j k = planAt plan (32 + (j * 4 + k))
 
 abbrev pub sizeIn : List ℕ → ℕ
 sizeIn plan = planAt plan 64
+
+-- how far between its second and third cell a read is
+abbrev pub fractionOf : (len : ℕ) (delay : Float) → Float
+fractionOf len delay = held len delay ⊖ whole (wholePart (held len delay))
 
 -- the two lists are as long as they should be
 pub record Widths (plan : List ℕ) (teeth : List Float) : Type 0 where
@@ -33,10 +37,20 @@ pub record Planned (len : ℕ) (c : Chord) (plan : List ℕ) (teeth : List Float
   pub inside : (m : ℕ) → m < sizeIn plan → planAt plan m < len
   pub place : (j k : ℕ) → j < teethOf c → k < 4 → placeOf plan j k < sizeIn plan
   pub back : (j k : ℕ) → j < teethOf c → k < 4 → planAt plan (placeOf plan j k) ≡ toothFirst len (teeth ‼ 8) c j + k
-  pub fraction : (j : ℕ) → j < teethOf c
-      → teeth ‼ j ≡ held len (toothDelay (teeth ‼ 8) c j) ⊖ whole (wholePart (held len (toothDelay (teeth ‼ 8) c j)))
+  pub fraction : (j : ℕ) → j < teethOf c → teeth ‼ j ≡ fractionOf len (toothDelay (teeth ‼ 8) c j)
 
--- ---- the reading through a view
+-- the plan of a ratio
+abbrev pub PlannedFor : (len : ℕ) → Chord → (ratio : Float) (plan : List ℕ) (teeth : List Float) → Type 0
+PlannedFor len c ratio plan teeth = Planned len c plan teeth × (teeth ‼ 8 ≡ ratio)
+
+-- ---- a reading
+
+-- of n teeth with these taps: the list of them, and their mean
+pub record TapsLeft (n : ℕ) (of : List Float) (mean : Float) (taps : List Float) : Type 0 where
+  pub mean-is : mean ≡ tapsMean n of
+  pub list : taps ≡ of
+
+-- through a view
 pub record ChordLeaves (xs : List Float) (len cursor slot : ℕ) (ratio : Float) (c : Chord) (size : ℕ) (taps : List Float) : Type 0 where
   pub cells : size ≡ chordSize xs len slot ratio c
   pub values : taps ≡ chordRead xs len cursor slot ratio c

@@ -16,7 +16,7 @@ use Rattle.lines.specs.View.{length-of}
 use Rattle.lines.specs.Delay.{held-between}
 use Rattle.extended.specs.declared.Chord.{Chord}
 use Rattle.teeth.specs.Teeth.{teethOf, toothDelay, firstOf, isOfFour, isNeeded, howMany, toothFirst, cellsNeeded}
-use Rattle.teeth.specs.Contracts.{planAt, placeOf, sizeIn, Widths, Planned}
+use Rattle.teeth.specs.Contracts.{planAt, placeOf, sizeIn, fractionOf, Widths, Planned}
 use Rattle.teeth.specs.Needed.{many-none, freshTooth, size-more, tooth-same}
 
 -- the first cells of the teeth so far
@@ -159,10 +159,6 @@ module _ (f : ℕ → ℕ) (i t steps : ℕ) (plan : List ℕ) (size : ℕ) (x :
 pub few-teeth : (c : Chord) → teethOf c ≤ 8
 unfolding teethOf
 few-teeth c = omega arith
-
--- how far between its second and third cell a read is
-abbrev pub fractionOf : (len : ℕ) (delay : Float) → Float
-fractionOf len delay = held len delay ⊖ whole (wholePart (held len delay))
 
 pub record Planning (len : ℕ) (ratio : Float) (c : Chord) (i : ℕ) (plan : List ℕ) (teeth : List Float) (firsts : List ℕ) (size : ℕ) : Type 0 where
   pub wide : length firsts ≡ 8

@@ -7,10 +7,10 @@ ghost use lib.ListN.{length, set, replicate};
 ghost use Rattle.lane.specs.Floats.{_⊕_, _‼_, zero};
 ghost use Rattle.parts.specs.Parts.{piece};
 ghost use Rattle.lines.specs.Lines.{isLength, isView, cellOf};
-ghost use Rattle.teeth.specs.Teeth.{ringTaps, tapsMean, teethOf, toothDelay, firstOf, isOfFour};
-ghost use Rattle.teeth.specs.Contracts.{planAt, placeOf, sizeIn, Widths, Planned, ChordLeaves};
+ghost use Rattle.teeth.specs.Teeth.{ringTaps, teethOf, toothDelay, firstOf, isOfFour};
+ghost use Rattle.teeth.specs.Contracts.{planAt, placeOf, sizeIn, fractionOf, Widths, Planned, PlannedFor, TapsLeft, ChordLeaves};
 ghost use Rattle.teeth.specs.Needed.{fresh, freshTooth, Apart, Clear};
-ghost use Rattle.teeth.specs.Placing.{kept, fractionOf, Earlier, Placed, Cell};
+ghost use Rattle.teeth.specs.Placing.{kept, Earlier, Placed, Cell};
 ghost use Rattle.teeth.specs.Taps.{Loaded, tapOf, Summed};
 use extended::Chord;
 
@@ -177,7 +177,7 @@ pub fn plan_teeth(
     teeth: &mut [f32; 9],
 )
     requires { ⌜ (isLength len ≡ true) × (Widths (now plan) (now teeth)) ⌝ }
-    ensures { λ _. ⌜ (Planned len chord (now (plan .exit)) (now (teeth .exit))) × (now (teeth .exit) ‼ 8 ≡ ratio) ⌝ }
+    ensures { λ _. ⌜ PlannedFor len chord ratio (now (plan .exit)) (now (teeth .exit)) ⌝ }
 {
     let n = teeth_of(chord);
     let mut firsts = [0usize; 8];
@@ -293,8 +293,8 @@ pub fn read_planned(
     taps: &mut [f32; 8],
 ) -> f32
     requires { ⌜ (isView len slot (length (now buf)) ≡ true) × (Planned len chord (now plan) (now teeth)) ⌝ }
-    ensures { λ r. ⌜ (r ≡ tapsMean (teethOf chord) (ringTaps len cursor (piece len slot (now (buf .entry))) (now (teeth .entry) ‼ 8) chord))
-        × (now (taps .exit) ≡ ringTaps len cursor (piece len slot (now (buf .entry))) (now (teeth .entry) ‼ 8) chord) ⌝ }
+    ensures { λ r. ⌜ TapsLeft (teethOf chord) (ringTaps len cursor (piece len slot (now (buf .entry))) (now (teeth .entry) ‼ 8) chord)
+        r (now (taps .exit)) ⌝ }
 {
     let n = teeth_of(chord);
     *taps = [0.0f32; 8];

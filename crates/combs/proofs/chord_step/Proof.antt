@@ -6,7 +6,7 @@ use Rattle.combs.proofs.chord_step.Tie as tie
 
 returns : tie.Need-returns
 unfolding chordStep
-returns c = rw (← c .before .before .before .before .read-planned .ensures .0) (c .before .before .comb-end .ensures)
+returns c = rw (← c .before .before .before .before .read-planned .ensures .mean-is) (c .before .before .comb-end .ensures)
 
 pub chord-step-spec : {M : Type 1} → statement M
 chord-step-spec =

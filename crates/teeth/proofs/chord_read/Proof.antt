@@ -36,7 +36,7 @@ returns c =
     let p = c .before .before .before .before .plan-teeth .ensures in
     record {
       cells = rw e (p .0 .size-is ∙ ap (λ (r : Float). cellsNeeded (a .len) r (a .chord)) (p .1));
-      values = c .read-planned .ensures .1
+      values = c .read-planned .ensures .list
           ∙ ap (λ (r : Float). ringTaps (a .len) (a .cursor) (piece (a .len) (a .slot) (now (a .buf))) r (a .chord)) (p .1)
           ∙ chord-good (now (a .buf)) (a .len) (a .cursor) (a .slot) (a .ratio) (a .chord) e;
     }

@@ -6,7 +6,8 @@ use lib.Ieee.{Float}
 use denote.Ref.{now}
 use Rattle.lines.specs.View.{length-of}
 use Rattle.teeth.specs.Teeth.{toothDelay, firstOf, toothFirst}
-use Rattle.teeth.specs.Placing.{fractionOf, first-inside, few-teeth, Planning, planning-none, firsts-more, placed-before, planning-more, planning-done}
+use Rattle.teeth.specs.Contracts.{fractionOf}
+use Rattle.teeth.specs.Placing.{first-inside, few-teeth, Planning, planning-none, firsts-more, placed-before, planning-more, planning-done}
 use Rattle.teeth.proofs.plan_teeth.Statement.{statement}
 use Rattle.teeth.proofs.plan_teeth.Tie as tie
 

@@ -23,10 +23,11 @@ returns c =
     let a = s .args in
     let n = c .before .before .before .teeth-of in
     let none : teethOf (a .chord) ≡ 0 = sym (n .ensures) ∙ c .before .if1 .taken in
-    let read : Float → Float = λ delay. ringRead (a .len) (a .cursor) delay (piece (a .len) (a .slot) (now (a .buf))) in (
-      (λ i. sum-none read (now (a .teeth) ‼ 8) (a .chord) none i ⊗ (one ⊘ whole (n .ensures i))),
-      rest-none read (now (a .teeth) ‼ 8) (a .chord) none,
-    )
+    let read : Float → Float = λ delay. ringRead (a .len) (a .cursor) delay (piece (a .len) (a .slot) (now (a .buf))) in
+    record {
+      mean-is = λ i. sum-none read (now (a .teeth) ‼ 8) (a .chord) none i ⊗ (one ⊘ whole (n .ensures i));
+      list = rest-none read (now (a .teeth) ‼ 8) (a .chord) none;
+    }
 
 load-cells-requires : tie.Need-load-cells-requires
 load-cells-requires c κs = let s = c .before .before .before .before in (s .pre .0, s .pre .1 .few, s .pre .1 .inside)
@@ -54,15 +55,16 @@ returns-2 c =
     let tap : ℕ → Float = λ j. tapOf (cells .result) (now (a .plan)) (now (a .teeth) ‼ j) j in
     let ring : List Float = piece (a .len) (a .slot) (now (a .buf)) in
     let g = good _ _ _ (s .pre .0) .size in
-    let some : 0 < teethOf (a .chord) = omega (arith, n .ensures, c .before .before .before .before .before .if1 .left) in (
-      (λ i.
+    let some : 0 < teethOf (a .chord) = omega (arith, n .ensures, c .before .before .before .before .before .if1 .left) in
+    record {
+      mean-is = λ i.
           (r .ensures .total
           ∙ ap (summed tap) (n .ensures)
           ∙ sum-is (a .len) (a .cursor) ring (a .chord) (now (a .plan)) (now (a .teeth)) (cells .result) g (s .pre .1) (cells .ensures) some) i
-          ⊗ (one ⊘ whole (n .ensures i))),
-      taps-are (a .len) (a .cursor) ring (a .chord) (now (a .plan)) (now (a .teeth)) (cells .result) (r .last .1 .1 .1 .1 .0) g (s .pre .1) (cells .ensures)
-          (subst (λ (k : ℕ). Tapped tap k (r .last .1 .1 .1 .1 .0)) (n .ensures) (r .ensures .made)),
-    )
+          ⊗ (one ⊘ whole (n .ensures i));
+      list = taps-are (a .len) (a .cursor) ring (a .chord) (now (a .plan)) (now (a .teeth)) (cells .result) (r .last .1 .1 .1 .1 .0) g (s .pre .1) (cells .ensures)
+          (subst (λ (k : ℕ). Tapped tap k (r .last .1 .1 .1 .1 .0)) (n .ensures) (r .ensures .made));
+    }
 
 pub read-planned-spec : {M : Type 1} → statement M
 read-planned-spec =
