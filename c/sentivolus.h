@@ -339,7 +339,8 @@ size_t sentivolus_chord_read(const float *buf, size_t buf_len, size_t len, size_
 /* One state-variable stage with gain g and damping k: band, low, and the states ic1 and ic2 after it. */
 void sentivolus_svf(float ic1, float ic2, float x, float g, float k, float out[4]);
 
-/* The float functions that the filters are made of, for comparison by running. */
+/* The float functions that the filters are made of, for comparison by running. Of every finite x, held to -3 .. 3, sentivolus_soft_clip gives
+ * x (x^2 + 27) / (9 x^2 + 27) with an error of at most 2^-22, which is proved; measured over every float it is at most 3.37 x 2^-24. */
 float sentivolus_max(float a, float b);  /* of a NaN and a number the number; -0 is below +0; so min */
 float sentivolus_min(float a, float b);
 float sentivolus_exp2(float v);          /* v held to -12 .. 12, NaN as -12 */

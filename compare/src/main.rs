@@ -1,6 +1,7 @@
 //! Runs of the proved library beside the published Rust. `compare --help` lists the commands.
 
 mod check;
+mod clip;
 mod file;
 mod leaf;
 mod numbers;
@@ -17,13 +18,14 @@ use std::io::{Read, Write};
 use std::process::ExitCode;
 
 const HELP: &str = "\
-usage: compare run | leaf | file | check run FILE | check leaf FILE | check file FILE | scale ORACLE [OPTION..] | roots
+usage: compare run | leaf | file | check run FILE | check leaf FILE | check file FILE | scale ORACLE [OPTION..] | roots | clip [FIRST LAST]
   run    a scenario file from standard input, every answer recomputed by the proved library
   leaf   the same for a leaves file
   file   the same for a file of cases on parked files
   check  a file of one of these kinds against its answers recomputed
   scale  random scenarios, leaves and parked files of the oracle's program, from fresh seeds; `compare scale --help` lists the options
   roots  every f32 of the root against the machine's square root
+  clip   how far soft_clip strays at most, from 1/16 on exactly: over every f32, or those with bits FIRST to LAST, eight lower-case digits each
 Exit status: 0, 1 where an answer differs, 2 where the command line or a line of the file cannot be read.";
 
 /// How a command ends where it does not end well.
@@ -56,6 +58,11 @@ fn replay_input(replay: replay::Replay) -> Result<String, Failure> {
     Ok(replay(&words::text(bytes)?)?.text)
 }
 
+/// How far soft_clip strays over a range of bits.
+fn clipped(first: u32, last: u32) -> Result<String, Failure> {
+    if clip::run(first, last) { Ok(String::new()) } else { Err(Failure::Differs("soft_clip strays too far or gives another sign, or no input is finite".into())) }
+}
+
 /// Runs a command; answers what is left to print.
 fn command(args: &[&str]) -> Result<String, Failure> {
     match args {
@@ -68,6 +75,11 @@ fn command(args: &[&str]) -> Result<String, Failure> {
         ["check", kind, path] => match replay_of(kind) {
             Some(replay) => check::run(path, replay).map(|line| line + "\n"),
             None => Err(Failure::Usage(format!("{kind} is none of run, leaf and file"), HELP)),
+        },
+        ["clip"] => clipped(0, u32::MAX),
+        ["clip", first, last] => match (words::bits(first), words::bits(last)) {
+            (Some(first), Some(last)) => clipped(first, last),
+            _ => Err(Failure::Usage(format!("{first} {last} are no bits, eight lower-case hexadecimal digits each"), HELP)),
         },
         ["roots"] => if roots::run() { Ok(String::new()) } else { Err(Failure::Differs("the root differs".into())) },
         [kind] => match replay_of(kind) {

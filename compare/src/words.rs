@@ -139,7 +139,7 @@ impl<'a> Words<'a> {
     }
 }
 
-fn bits(word: &str) -> Option<u32> {
+pub fn bits(word: &str) -> Option<u32> {
     let fits = word.len() == 8 && word.bytes().all(|b| matches!(b, b'0'..=b'9' | b'a'..=b'f'));
     if fits { u32::from_str_radix(word, 16).ok() } else { None }
 }

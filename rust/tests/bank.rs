@@ -194,6 +194,16 @@ fn zeros_in_order() {
     assert_eq!([t[0].to_bits(), t[6].to_bits()], [(-0.0f32).to_bits(), 0]);
 }
 
+#[test]
+fn the_clip_is_as_near_as_it_says() {
+    for x in (0..=u32::MAX).step_by(4093).map(f32::from_bits).filter(|x| x.is_finite()) {
+        let v = f64::from(x.clamp(-3.0, 3.0));
+        let off = f64::from(soft_clip(x)) - v * (v * v + 27.0) / (9.0 * v * v + 27.0);
+        assert!(off.abs() < 3.37 / f64::from(1 << 24), "{:08x}", x.to_bits());
+        assert_eq!(soft_clip(x).is_sign_negative(), x.is_sign_negative(), "{:08x}", x.to_bits());
+    }
+}
+
 /// Each slot's peak by its bits, of two voices in stereo.
 fn peaks(bank: &Bank) -> [u32; 4] {
     [(0, 0), (0, 1), (1, 0), (1, 1)].map(|(channel, voice)| bank.peak(channel, voice).unwrap().to_bits())

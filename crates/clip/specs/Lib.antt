@@ -1,0 +1,7 @@
+pub mod Sums
+pub mod Cases
+pub mod Bound
+pub mod Results
+pub mod Values
+pub mod Held
+pub mod Clip

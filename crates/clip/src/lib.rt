@@ -1,0 +1,1 @@
+// How far the rounding in soft_clip strays: a bound, over whole numbers. No code.

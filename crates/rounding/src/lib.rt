@@ -1,0 +1,1 @@
+// How far one rounding strays, and each operation as one rounding: definitions and laws. No code.
