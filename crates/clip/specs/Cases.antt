@@ -4,7 +4,7 @@
 use mathlib.Core.Path.{subst}
 use Prim.Native.Nat.{ℕ, _+_, _-_, _*_, _≤_}
 use mathlib.Core.Logic.{inl, inr}
-use native.Mathlib.Nat.{le-of-lt, mul-le-mul-right}
+use native.Mathlib.Nat.{mul-le-mul-right}
 use native.Mathlib.Omega.{arith}
 use Rattle.rounding.specs.Rounding.{either, rest}
 
@@ -29,31 +29,29 @@ errors j c3 c5 a d = a * j + d * under a d * c3 + a * over a d * c5
 abbrev pub Small : (m ρ a d : ℕ) → Type 0
 Small m ρ a d = 1000 * (ρ * d) + under a d * under a d ≤ 1000 * (m * (under a d * under a d))
 
--- ---- an input below 2, by 2 a d ≤ a² + d²
-square-past : (d t : ℕ) → 2 * (d * (d + t)) ≤ (d + t) * (d + t) + d * d
-square-past d t = omega arith
+-- from k on: what holds of a = k d + t holds of every a from k d on
+from : (k : ℕ) (P : ℕ → ℕ → Type 0) → ((d t : ℕ) → P (k * d + t) d) → (a d : ℕ) → k * d ≤ a → P a d
+from k P p a d h = subst (λ (z : ℕ). P z d) (rest a (k * d) h) (p d (a - k * d))
 
-square-of : (a d : ℕ) → d ≤ a → 2 * (d * a) ≤ a * a + d * d
-square-of a d h = subst (λ (z : ℕ). 2 * (d * z) ≤ z * z + d * d) (rest a d h) (square-past d (a - d))
+-- ---- an input below 2, by 2 a d ≤ a² + d²
+square-from : (a d : ℕ) → 1 * d ≤ a → 2 * (d * a) ≤ a * a + d * d
+square-from = from 1 (λ a d. 2 * (d * a) ≤ a * a + d * d) (λ d t. omega arith)
 
 square : (a d : ℕ) → 2 * (d * a) ≤ a * a + d * d
-square a d = elim (either a d) [ inl h ↦ omega (arith, square-of d a (le-of-lt h)) | inr h ↦ square-of a d h ]
+square a d = elim (either a d) [
+  | inl h ↦ let g : 1 * a ≤ d = omega (arith, h) in omega (arith, square-from d a g)
+  | inr h ↦ let g : 1 * d ≤ a = omega (arith, h) in square-from a d g
+]
 
 pub below-two : (a d : ℕ) → Small 7 (errors (each 4 32 64 a d) 64 64 a d) a d
 below-two a d = omega (arith, mul-le-mul-right (d * d) (square a d), mul-le-mul-right (a * a) (square a d))
 
--- ---- from 2 on, with a = 2 d + t: no term is negative
-past-two : (d t : ℕ) → Small 7 (errors (each 8 32 64 (2 * d + t) d) 128 128 (2 * d + t) d) (2 * d + t) d
-past-two d t = omega arith
-
+-- ---- from 2 on: with a = 2 d + t no term is negative
 pub from-two : (a d : ℕ) → 2 * d ≤ a → Small 7 (errors (each 8 32 64 a d) 128 128 a d) a d
-from-two a d h = subst (λ (z : ℕ). Small 7 (errors (each 8 32 64 z d) 128 128 z d) z d) (rest a (2 * d) h) (past-two d (a - 2 * d))
-
-past-two-alike : (d t : ℕ) → Small 7 (errors (together 8 64 (2 * d + t) d) 128 128 (2 * d + t) d) (2 * d + t) d
-past-two-alike d t = omega arith
+from-two = from 2 (λ a d. Small 7 (errors (each 8 32 64 a d) 128 128 a d) a d) (λ d t. omega arith)
 
 pub from-two-alike : (a d : ℕ) → 2 * d ≤ a → Small 7 (errors (together 8 64 a d) 128 128 a d) a d
-from-two-alike a d h = subst (λ (z : ℕ). Small 7 (errors (together 8 64 z d) 128 128 z d) z d) (rest a (2 * d) h) (past-two-alike d (a - 2 * d))
+from-two-alike = from 2 (λ a d. Small 7 (errors (together 8 64 a d) 128 128 a d) a d) (λ d t. omega arith)
 
 -- ---- from 53 / 20 on, where W is exact
 pub near-three : (a d : ℕ) → 53 * d ≤ 20 * a → Small 6 (errors (each 16 64 128 a d) 128 0 a d) a d

@@ -31,7 +31,7 @@ exactClip v =
 abbrev pub StraysByAtMostOneOver : ℕ → Type 0
 StraysByAtMostOneOver n = (x : Float) → finite x ≡ true → WithinOneOver n (valueOf (softClip x)) (exactClip (heldTo3 (valueOf x)))
 
--- ---- the bound's numbers are those of the definitions
+-- ---- for the proofs: the numbers that the bound was worked out for are those of the definitions
 held-is : (s : Bool) (m : ℕ) (e : ℤ) → heldTo3 (valueOf (fin s m e)) .numerator ≡ min (m * up e) (3 * down e)
 unfolding valueOf heldTo3
 held-is s m e = omega arith
@@ -44,7 +44,7 @@ denominator-is : (v : Fraction) (w : ℕ) → v .numerator ≡ w → exactClip v
 unfolding exactClip
 denominator-is v w h = subst (λ (z : ℕ). exactClip v .denominator ≡ v .denominator * under z (v .denominator)) h (omega arith)
 
--- by at most 2^-22
+-- ---- by at most 2^-22
 pub clip-strays-less : StraysByAtMostOneOver (2 ^ 22)
 unfolding valueOf heldTo3 exactClip
 clip-strays-less nan f = absurd (subst T (sym f) tt)
@@ -57,11 +57,11 @@ clip-strays-less (fin s m e) f =
     written-alike y (clipAt s w (down e)) (exactClip v) refl (numerator-is v w h) (denominator-is v w h)
     (weaker-bound (2 ^ 22) (2 ^ 22) y (clipAt s w (down e)) (lit≤ tt) (near-clip s m e))
 
--- C-19: so by at most 2^-21
+-- ---- C-19: so by at most 2^-21
 pub clip-strays : StraysByAtMostOneOver (2 ^ 21)
 clip-strays x f = weaker-bound (2 ^ 21) (2 ^ 22) (valueOf (softClip x)) (exactClip (heldTo3 (valueOf x))) (lit≤ tt) (clip-strays-less x f)
 
--- but not by at most 2^-23: of 2.0643251, which is 8658407 / 2^22, the output differs by more
+-- ---- but not by at most 2^-23: of 2.0643251, which is 8658407 / 2^22, the output differs by more
 abbrev pub worst : Float
 worst = ofBits binary32 0x40041de7
 

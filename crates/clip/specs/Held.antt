@@ -47,23 +47,25 @@ at-three false = refl
 abbrev pub clipAt : Bool → ℕ → ℕ → Fraction
 clipAt s w d = record { negative = s; numerator = w * over w d; denominator = d * under w d }
 
-pub denominator-positive : (w d : ℕ) → 0 < d → 0 < d * under w d
+denominator-positive : (w d : ℕ) → 0 < d → 0 < d * under w d
 denominator-positive w d D = mul-pos D (omega (arith, mul-pos D D))
 
-inside : (s : Bool) (m : ℕ) (e : ℤ) → m * up e ≤ 3 * down e → WithinOneOver (2 ^ 22) (valueOf (body (fin s m e))) (clipAt s (m * up e) (down e))
+abbrev pub Near : Float → Bool → ℕ → ℕ → Type 0
+Near y s w d = WithinOneOver (2 ^ 22) (valueOf y) (clipAt s w d)
+
+inside : (s : Bool) (m : ℕ) (e : ℤ) → m * up e ≤ 3 * down e → Near (body (fin s m e)) s (m * up e) (down e)
 inside s m e h =
     let a = m * up e in
     let d = down e in
     go a d (grid binary32 (a * a) (d * d)) _ _ _ _ _ (down-pos e) h (refl, refl) (record { x = refl; s = refl; p = refl; w = refl; t = refl; q = refl })
   where
-    go : (a d X S P W T Q : ℕ) → 0 < d → a ≤ 3 * d → HasValue (fin s m e) s a d → Results a d X S P W T Q
-        → WithinOneOver (2 ^ 22) (valueOf (body (fin s m e))) (clipAt s a d)
+    go : (a d X S P W T Q : ℕ) → 0 < d → a ≤ 3 * d → HasValue (fin s m e) s a d → Results a d X S P W T Q → Near (body (fin s m e)) s a d
     go a d X S P W T Q D h v g =
         let b = body-value (fin s m e) s a d X S P W T Q D v h g in
         within-units (body (fin s m e)) (clipAt s a d) Q (2 ^ 149) (8 * 2 ^ 124) (2 ^ 22) (pow-pos 149) (denominator-positive a d D) (lit≤ tt) (b .0) (b .1)
 
 -- beyond 3 it is ±1, as is the exact clip
-one : (s : Bool) (d : ℕ) → 0 < d → WithinOneOver (2 ^ 22) (valueOf (fin s 1 (pos 0))) (clipAt s (3 * d) d)
+one : (s : Bool) (d : ℕ) → 0 < d → Near (fin s 1 (pos 0)) s (3 * d) d
 unfolding valueOf
 one s d D = record { numbers = (lit< tt, denominator-positive (3 * d) d D); signs = refl; above = omega arith; below = omega arith }
 
@@ -73,16 +75,17 @@ least a b h = (omega arith, omega arith)
 least-beyond : (a b : ℕ) → b < a * 1 → b ≡ min a b
 least-beyond a b h = omega arith
 
-pub near-clip : (s : Bool) (m : ℕ) (e : ℤ) → WithinOneOver (2 ^ 22) (valueOf (softClip (fin s m e))) (clipAt s (min (m * up e) (3 * down e)) (down e))
+pub near-clip : (s : Bool) (m : ℕ) (e : ℤ) → Near (softClip (fin s m e)) s (min (m * up e) (3 * down e)) (down e)
 near-clip s m e =
-    subst (λ (y : Float). WithinOneOver (2 ^ 22) (valueOf y) (clipAt s (min (m * up e) (3 * down e)) (down e))) (sym (clip-of s m e))
-    (go (ltb (3 * down e) (m * up e * 1)) (ltb→lt (3 * down e) (m * up e * 1)) (nltb→le (3 * down e) (m * up e * 1)))
+    let a = m * up e in
+    let d = down e in
+    subst (λ (y : Float). Near y s (min a (3 * d)) d) (sym (clip-of s m e)) (go (ltb (3 * d) (a * 1)) (ltb→lt (3 * d) (a * 1)) (nltb→le (3 * d) (a * 1)))
   where
     go : (b : Bool) → (T b → 3 * down e < m * up e * 1) → (T (not b) → m * up e * 1 ≤ 3 * down e)
-        → WithinOneOver (2 ^ 22) (valueOf (body (pick b s m e))) (clipAt s (min (m * up e) (3 * down e)) (down e))
+        → Near (body (pick b s m e)) s (min (m * up e) (3 * down e)) (down e)
     go true h k =
-        subst (λ (w : ℕ). WithinOneOver (2 ^ 22) (valueOf (body (fin s 3 (pos 0)))) (clipAt s w (down e))) (least-beyond (m * up e) (3 * down e) (h tt))
-        (subst (λ (y : Float). WithinOneOver (2 ^ 22) (valueOf y) (clipAt s (3 * down e) (down e))) (sym (at-three s)) (one s (down e) (down-pos e)))
+        subst (λ (w : ℕ). Near (body (fin s 3 (pos 0))) s w (down e)) (least-beyond (m * up e) (3 * down e) (h tt))
+        (subst (λ (y : Float). Near y s (3 * down e) (down e)) (sym (at-three s)) (one s (down e) (down-pos e)))
     go false h k =
         let l = least (m * up e) (3 * down e) (k tt) in
-        subst (λ (w : ℕ). WithinOneOver (2 ^ 22) (valueOf (body (fin s m e))) (clipAt s w (down e))) (l .1) (inside s m e (l .0))
+        subst (λ (w : ℕ). Near (body (fin s m e)) s w (down e)) (l .1) (inside s m e (l .0))

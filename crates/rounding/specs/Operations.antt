@@ -54,8 +54,11 @@ pub like-plus : (s : Bool) → unlike s false ≡ s
 like-plus true = refl
 like-plus false = refl
 
-signs : (f : Format) (r s q t : Bool) (n c : ℕ) → r ≡ s → q ≡ t → round f (unlike r q) n c ≡ round f (unlike s t) n c
-signs f r s q t n c p u = ap (λ (z : Bool). round f (unlike z q) n c) p ∙ ap (λ (z : Bool). round f (unlike s z) n c) u
+-- equal fractions of equal signs
+same-rounding : (f : Format) (r s q t : Bool) (a c b d : ℕ) → r ≡ s → q ≡ t → 0 < c → 0 < d → a * d ≡ b * c
+    → round f (unlike r q) a c ≡ round f (unlike s t) b d
+same-rounding f r s q t a c b d p u C D h =
+    round-same f (unlike r q) a c b d C D h ∙ ap (λ (z : Bool). round f (unlike z q) b d) p ∙ ap (λ (z : Bool). round f (unlike s z) b d) u
 
 mul-values : (x j y k a c b d : ℕ) → x * c ≡ a * j → y * d ≡ b * k → x * y * (c * d) ≡ a * b * (j * k)
 mul-values x j y k a c b d g h = omega (arith, ap (λ (z : ℕ). z * (y * d)) g, ap (λ (z : ℕ). a * j * z) h)
@@ -66,23 +69,25 @@ unfolding mul
 product-rounds f s t x y a c b d C D g h =
     finite-both (λ x y. mul f x y ≡ round f (unlike s t) (a * b) (c * d)) x y s t a c b d g h
     (λ r m e q n k p u v w.
-    round-same f (unlike r q) (m * up e * (n * up k)) (down e * down k) (a * b) (c * d) (mul-pos (down-pos e) (down-pos k)) (mul-pos C D)
-    (mul-values (m * up e) (down e) (n * up k) (down k) a c b d v w)
-    ∙ signs f r s q t (a * b) (c * d) p u)
+    same-rounding f r s q t (m * up e * (n * up k)) (down e * down k) (a * b) (c * d) p u (mul-pos (down-pos e) (down-pos k)) (mul-pos C D)
+    (mul-values (m * up e) (down e) (n * up k) (down k) a c b d v w))
 
 -- ---- a quotient, its divisor no zero
 div-values : (x j y k a c b d : ℕ) → x * c ≡ a * j → y * d ≡ b * k → x * k * (b * c) ≡ a * d * (y * j)
 div-values x j y k a c b d g h = omega (arith, ap (λ (z : ℕ). z * (k * b)) g, ap (λ (z : ℕ). a * j * z) h)
 
-no-zero : (n k d b w : ℕ) → n * k * d ≡ b * w → 0 < b → 0 < w → n ≡ 0 → ⊥
-no-zero n k d b w h y p z = omega (arith, mul-pos y p, ap (λ (v : ℕ). v * k * d) z)
+no-zero : (n k d b w : ℕ) → n * k * d ≡ b * w → 0 < b → 0 < w → 0 < n
+no-zero n k d b w h B W = elim (eq-zero-or-pos n) [
+  | inl z ↦ let x : n * k * d ≡ 0 * k * d = ap (λ (v : ℕ). v * k * d) z in omega (arith, x, mul-pos B W)
+  | inr p ↦ p
+]
 
-positive : (n : ℕ) → (n ≡ 0 → ⊥) → 0 < n
-positive n h = elim (eq-zero-or-pos n) [ inl z ↦ absurd (h z) | inr p ↦ p ]
-
-not-taken : (b : Bool) (x y : Float) → (T b → ⊥) → cond b x y ≡ y
-not-taken true x y h = absurd (h tt)
-not-taken false x y h = refl
+not-taken : (n : ℕ) (x y : Float) → 0 < n → cond (eqb n 0) x y ≡ y
+not-taken n x y N = go (eqb n 0) (eqb→eq n 0)
+  where
+    go : (b : Bool) → (T b → n ≡ 0) → cond b x y ≡ y
+    go true h = let z : n ≡ 0 = h tt in absurd (omega (arith, z))
+    go false h = refl
 
 pub quotient-rounds : (f : Format) (s t : Bool) (x y : Float) (a c b d : ℕ) → 0 < c → 0 < b → HasValue x s a c → HasValue y t b d
     → div f x y ≡ round f (unlike s t) (a * d) (b * c)
@@ -90,12 +95,10 @@ unfolding div
 quotient-rounds f s t x y a c b d C B g h =
     finite-both (λ x y. div f x y ≡ round f (unlike s t) (a * d) (b * c)) x y s t a c b d g h
     (λ r m e q n k p u v w.
-    let some : n ≡ 0 → ⊥ = no-zero n (up k) d b (down k) w B (down-pos k) in
-    not-taken (eqb n 0) (cond (eqb m 0) nan (inf (unlike r q))) (round f (unlike r q) (m * up e * down k) (n * up k * down e)) (λ z. some (eqb→eq n 0 z))
-    ∙ round-same f (unlike r q) (m * up e * down k) (n * up k * down e) (a * d) (b * c)
-    (mul-pos (mul-pos (positive n some) (up-pos k)) (down-pos e)) (mul-pos B C)
-    (div-values (m * up e) (down e) (n * up k) (down k) a c b d v w)
-    ∙ signs f r s q t (a * d) (b * c) p u)
+    let N = no-zero n (up k) d b (down k) w B (down-pos k) in
+    not-taken n (cond (eqb m 0) nan (inf (unlike r q))) (round f (unlike r q) (m * up e * down k) (n * up k * down e)) N
+    ∙ same-rounding f r s q t (m * up e * down k) (n * up k * down e) (a * d) (b * c) p u (mul-pos (mul-pos N (up-pos k)) (down-pos e)) (mul-pos B C)
+    (div-values (m * up e) (down e) (n * up k) (down k) a c b d v w))
 
 -- ---- an operation that is one rounding of a fraction below 2^i has its value, g units
 pub operation-value : (i : ℕ) (x : Float) (s t : Bool) (a c g : ℕ) → g ≡ grid binary32 a c → x ≡ round binary32 s a c → s ≡ t
