@@ -25,7 +25,9 @@
  *   Real time   No allocation, no lock, no system call. Less than 12 KiB of stack; a design's table and sections less than 24 KiB; reading a
  *               parked file (sentivolus_file_setup and sentivolus_bank_restore, and the symbols under them) less than 64 KiB, for a table of
  *               its blocks' places. The time goes with voices x channels x frames, that of parking and reading with the file's bytes; an
- *               audition copies the bank's lists besides. Numbers in the subnormal range take several times as long (docs/PERFORMANCE.md).
+ *               audition copies the bank's lists besides. Numbers in the subnormal range take several times as long;
+ *               a slot without delay lines whose record no longer changes, while pitch, input and steering stand still, next to none
+ *               (docs/PERFORMANCE.md).
  *
  * Layouts (slot = channel * voices + voice)
  *

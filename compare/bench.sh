@@ -1,10 +1,12 @@
 #!/usr/bin/env bash
-# bench.sh: the proved library and the Rust's scalar lane (with document 01's stand-ins) in one run; then parking, auditions, the third axis and chord
-# combs. MILLIS sets the time a cell.
+# bench.sh: the proved library and the Rust's scalar lane (with document 01's stand-ins) in one run; then tails, parking, auditions, the third axis and
+# chord combs. MILLIS sets the time a cell.
 set -eu
 . "$(dirname "$0")/common.sh"
-usage="usage: bench.sh [silence | park | audition | axes | chord] [--before ARCHIVE] [--oracle FOLDER] [--help]
+usage="usage: bench.sh [silence | tails | centred | park | audition | axes | chord] [--before ARCHIVE] [--oracle FOLDER] [--help]
   silence          the table of silence alone
+  tails            the table of tails that no longer change alone, with --before of both archives
+  centred          the table of voices without a stereo offset alone, with --before of both archives
   park             the table of parking and restoring alone
   audition         the table of auditions beside their blocks alone
   axes             the table of PoleZero with two and with three axes alone
@@ -15,7 +17,7 @@ tables=() oracle=$timed before=
 while [ $# -gt 0 ]; do
     case $1 in
         --help) echo "$usage" && exit 0 ;;
-        silence | park | audition | axes | chord) tables=("$1") ;;
+        silence | tails | centred | park | audition | axes | chord) tables=("$1") ;;
         --before)
             [ -f "${2-}" ] || misused "--before takes an archive"
             before=$2
@@ -30,7 +32,7 @@ while [ $# -gt 0 ]; do
     esac
     shift
 done
-[ -z "$before" ] || [ ${#tables[@]} -eq 0 ] || misused "--before has a table of its own"
+[ -z "$before" ] || [[ ${tables[*]-tails} =~ ^(tails|centred)$ ]] || misused "--before has a table of its own"
 need_oracle "$oracle"
 out=$here/target/bench
 "$here/build.sh" >&2

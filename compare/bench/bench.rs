@@ -181,11 +181,17 @@ fn bells(face: usize) -> Table {
 }
 
 fn case(code: u32, rate: f32, voices: usize, channels: usize, frames: usize, moving: bool) -> Case {
+    case_at(code, rate, voices, channels, frames, moving, 0.7, 2.0)
+}
+
+/// The same with another resonance and stereo offset.
+#[allow(clippy::too_many_arguments)]
+fn case_at(code: u32, rate: f32, voices: usize, channels: usize, frames: usize, moving: bool, resonance: f32, offset: f32) -> Case {
     let s = Setup { code, rate: rate.to_bits(), reference: 440f32.to_bits(), voices: voices as u64, channels: channels as u64, clean: false };
     let mut e = Engine::new();
     let mut r = generate::Rng::new(5);
     e.open(s, s.needs());
-    for k in 0..voices as u64 { e.set(k, &[0.7f32, 0.4, 0.3, 0.35, 2.0, 0.9, 1.0, 0.3, 0.6].map(f32::to_bits)); e.start(k); }
+    for k in 0..voices as u64 { e.set(k, &[resonance, 0.4, 0.3, 0.35, offset, 0.9, 1.0, 0.3, 0.6].map(f32::to_bits)); e.start(k); }
     let held: Vec<f32> = (0..voices).map(|_| r.range(50.0, 90.0)).collect();
     let pitch = (0..frames * voices).map(|i| if moving { r.range(50.0, 90.0) } else { held[i % voices] }).collect();
     let audio = (0..frames * voices * channels).map(|_| r.range(-0.5, 0.5)).collect();
@@ -292,8 +298,8 @@ impl Timed {
     }
 }
 
-/// Best of several runs of each block and of the Rust, all taking turns. With `anew` each run starts from the case's state, which is put back outside
-/// of the time taken.
+/// Best of several runs of each block and of the Rust, all taking turns. With `anew` each run starts a block after the case's state, which is put
+/// back outside of the time taken; the block sets the peaks, which the case has not.
 fn measure_each<const N: usize>(c: &Case, millis: u128, anew: bool, blocks: [Timed; N]) -> ([f64; N], f64) {
     let per = c.audio.len();
     let reps = (16_000 / per).max(1);
@@ -304,7 +310,12 @@ fn measure_each<const N: usize>(c: &Case, millis: u128, anew: bool, blocks: [Tim
     let (mut best, mut rust) = ([f64::MAX; N], f64::MAX);
     let begun = Instant::now();
     while begun.elapsed().as_millis() < millis {
-        if anew { (ours, bank) = (blocks.map(|b| at_widths(&c.engine, b.widths)), c.engine.clone().bank()); }
+        if anew {
+            (ours, bank) = (blocks.map(|b| at_widths(&c.engine, b.widths)), c.engine.clone().bank());
+            audio.copy_from_slice(&c.audio);
+            c.rust(&mut bank, &mut audio);
+            for (timed, engine) in blocks.iter().zip(&mut ours) { audio.copy_from_slice(&c.audio); timed.run(engine, c, &mut audio, &mut counts); }
+        }
         let t = Instant::now();
         for _ in 0..reps { audio.copy_from_slice(&c.audio); c.rust(&mut bank, &mut audio); }
         rust = rust.min(t.elapsed().as_nanos() as f64 / (reps * per) as f64);
@@ -356,6 +367,80 @@ fn silence(millis: u128) {
         println!("| {code} {:?} |{cells} {:.1}, {:.1} |", KINDS[code as usize - 1], tail.0 / sounding.0, tail.1 / sounding.1);
     }
 }
+
+/// The case, of resonance 0.1, after a second of noise and then zeros, until a block leaves every record as it was: the seconds of zeros, where
+/// that comes within six.
+fn settled(code: u32, frames: usize) -> (Case, Option<f64>) {
+    let mut c = case_at(code, 48000.0, 16, 2, frames, false, 0.1, 2.0);
+    let mut counts = counts_of(&c.engine);
+    let second = f(c.engine.setup.rate) as usize / frames;
+    let mut audio = c.audio.clone();
+    let mut ours = at_widths(&c.engine, OURS);
+    let mut still = None;
+    for k in 0..7 * second {
+        if k < second { audio.copy_from_slice(&c.audio); } else { audio.fill(0.0); }
+        let before: Vec<u32> = ours.r.iter().map(|x| x.to_bits()).collect();
+        TWO_AXES.run(&mut ours, &c, &mut audio, &mut counts);
+        if k >= second && ours.r.iter().map(|x| x.to_bits()).eq(before) {
+            still = Some((k - second) as f64 / second as f64);
+            break;
+        }
+    }
+    c.engine = at_widths(&ours, RUST);
+    c.audio.fill(0.0);
+    (c, still)
+}
+
+/// Tails at resonance 0.1 where they no longer change, by each of the blocks and the Rust.
+fn tails_of<const N: usize>(millis: u128, what: &str, blocks: [Timed; N]) {
+    println!("Tails at resonance 0.1, 16 voices stereo, held pitch, zeros until no record changes: {what} (ours over the Rust)\n");
+    println!("| code | no record changes after | 64 frames | 4,096 frames |");
+    println!("|---|---|---|---|");
+    for code in 1..=12u32 {
+        let mut row = String::new();
+        let mut after = None;
+        for frames in [4096, 64] {
+            let (c, still) = settled(code, frames);
+            let (times, rust) = measure_each(&c, millis, true, blocks);
+            let each: String = times.iter().map(|t| format!("{t:.1}, ")).collect();
+            row = format!(" {each}{rust:.1} ({:.3}) |{row}", times[N - 1] / rust);
+            after = still;
+        }
+        println!("| {code} {:?} | {} |{row}", KINDS[code as usize - 1], after.map_or("not within 6 s".into(), |s| format!("{s:.2} s")));
+    }
+}
+
+/// Voices without a stereo offset, whose channels have one pitch, which moves; by each of the blocks and the Rust.
+fn centred_of<const N: usize>(millis: u128, what: &str, blocks: [Timed; N]) {
+    println!("No stereo offset, moving pitch, 16 voices stereo: {what} (ours over the Rust)\n");
+    println!("| code | 64 frames | 4,096 frames |");
+    println!("|---|---|---|");
+    for code in 1..=12u32 {
+        let mut row = String::new();
+        for frames in [64, 4096] {
+            let c = case_at(code, 48000.0, 16, 2, frames, true, 0.7, 0.0);
+            let (times, rust) = measure_each(&c, millis, false, blocks);
+            let each: String = times.iter().map(|t| format!("{t:.1}, ")).collect();
+            row += &format!(" {each}{rust:.1} ({:.2}) |", times[N - 1] / rust);
+        }
+        println!("| {code} {:?} |{row}", KINDS[code as usize - 1]);
+    }
+}
+
+#[cfg(not(before))]
+fn tails(millis: u128) { tails_of(millis, "ours, Rust", [TWO_AXES]); }
+
+#[cfg(not(before))]
+fn centred(millis: u128) { centred_of(millis, "ours, Rust", [TWO_AXES]); }
+
+#[cfg(before)]
+fn earlier() -> Timed { Timed { block: block_before, widths: widths_before(), form: PLAIN } }
+
+#[cfg(before)]
+fn tails(millis: u128) { tails_of(millis, "before, after, Rust", [earlier(), TWO_AXES]); }
+
+#[cfg(before)]
+fn centred(millis: u128) { centred_of(millis, "before, after, Rust", [earlier(), TWO_AXES]); }
 
 /// Microseconds of open, 16 voices stereo, and of start, at a rate.
 fn opening(rate: f32) -> (f64, f64) {
@@ -536,7 +621,7 @@ fn grid(millis: u128) {
 /// An earlier archive, this one and the Rust, taking turns.
 #[cfg(before)]
 fn before(millis: u128) {
-    let each = |c: &Case| measure_each(c, millis, false, [Timed { block: block_before, widths: widths_before(), form: PLAIN }, TWO_AXES]);
+    let each = |c: &Case| measure_each(c, millis, false, [earlier(), TWO_AXES]);
     println!("| code | pitch | voices x channels / frames: before, after, Rust (after over before) | | | |");
     println!("|---|---|---|---|---|---|");
     println!("| | | 1x1/64 | 1x1/4096 | 16x2/64 | 16x2/4096 |");
@@ -622,6 +707,8 @@ pub fn main() {
     let millis = std::env::var("MILLIS").ok().and_then(|m| m.parse().ok()).unwrap_or(300);
     match std::env::args().nth(2).as_deref() {
         Some("silence") => return silence(millis),
+        Some("tails") => return tails(millis),
+        Some("centred") => return centred(millis),
         Some("park") => return parking(millis),
         Some("audition") => return auditions(millis),
         Some("axes") => return axes(millis),
@@ -642,6 +729,10 @@ fn every(millis: u128) {
     growth(millis);
     println!();
     silence(millis);
+    println!();
+    tails(millis);
+    println!();
+    centred(millis);
     println!();
     parking(millis);
     println!();

@@ -183,7 +183,7 @@ pub fn block(
         slots: setup.channels * setup.voices,
         len: lines::ring_len(setup.rate),
     };
-    slots::run_block(
+    pairs::run_block(
         prepared,
         &sections,
         targets,

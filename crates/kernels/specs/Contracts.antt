@@ -56,6 +56,12 @@ pub record TunedAt (t : List Float) (pitch character : Float) : Type 0 where
   pub pitch-is : t ‼ 8 ≡ pitch
   pub character-is : t ‼ 9 ≡ character
 
+-- the kept list is the driven ladder's of this character, and its pitch no NaN
+pub record DrivenAt (code : ℕ) (t : List Float) (character : Float) : Type 0 where
+  pub driven : code ≡ 7
+  pub number : isNan (t ‼ 8) ≡ false
+  pub character-is : t ‼ 9 ≡ character
+
 pub record BlendedAt (t : List Float) (pitch x y z : Float) : Type 0 where
   pub number : isNan (t ‼ 40) ≡ false
   pub pitch-is : t ‼ 40 ≡ pitch

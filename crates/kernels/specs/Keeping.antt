@@ -24,9 +24,15 @@ use Rattle.poles.specs.Poles.{padOf, numberAt, poleCoefficients, poleOver, pole
 use Rattle.poles.specs.Numbers.{poleNumbers, sectionAt, numbers-step}
 use Rattle.kernels.specs.Tuning.{threeNumbers, djNumbers, rowNumbers, drivenNumbers, combNumbers, bandNumbers, multimodeNumbers}
 use Rattle.kernels.specs.Tuning.{k35Numbers, gainNumbers, numbersOf, tuningOf, tunedOver, rowsFrom, expanderFrom, weightsFrom, keyOf}
-use Rattle.kernels.specs.Tuning.{blendedOf, blendedOver, keptPad}
+use Rattle.kernels.specs.Tuning.{drivenList, blendedOf, blendedOver, keptPad}
 use Rattle.kernels.specs.Kernels.{overCount}
 use Rattle.kernels.specs.Contracts.{Kept, KeptSections}
+
+-- the driven ladder's list of a character, brought to another pitch
+pub driven-again : (reference : Ratio) (chord : Chord) (character : Float) (t : List Float) (old pitch : Pitch)
+    → t ≡ tuningOf 7 old (keyOf reference chord character) → drivenList t pitch reference character ≡ tuningOf 7 pitch (keyOf reference chord character)
+unfolding tuningOf numbersOf gainNumbers threeNumbers drivenNumbers drivenCoefficients drivenWith keyOf
+driven-again reference chord character t old pitch e = ap (λ (l : List Float). drivenList l pitch reference character) e
 
 module _ (code : ℕ) (t : List Float) (pitch : Pitch) (p : Settings) (e : t ≡ tuningOf code pitch p) where
   at : (n : ℕ) → code ≡ n → t ≡ tuningOf n pitch p

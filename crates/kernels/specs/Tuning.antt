@@ -91,6 +91,11 @@ tuningOf code pitch p =
     let n = numbersOf code pitch p in
     n .0 ∷ n .1 ∷ n .2 ∷ n .3 ∷ n .4 ∷ n .5 ∷ n .6 ∷ n .7 ∷ pitch .0 ∷ p .character ∷ []
 
+-- the driven ladder's at another pitch: drive and full scale follow from the character alone
+abbrev pub drivenList : List Float → Pitch → Ratio → (character : Float) → List Float
+drivenList t pitch reference character =
+    gainOf pitch reference ∷ t ‼ 1 ∷ t ‼ 2 ∷ zero ∷ zero ∷ zero ∷ zero ∷ zero ∷ pitch .0 ∷ character ∷ []
+
 -- rows, coefficients and weights from the list
 unfoldable pub rowsFrom : List Float → Rows
 rowsFrom t = record { g = t ‼ 0; e = t ‼ 1; r1 = t ‼ 2; a1 = t ‼ 3; r2 = t ‼ 4; a2 = t ‼ 5; r3 = t ‼ 6 }

@@ -12,9 +12,9 @@ ghost use Rattle.lines.specs.Lines.{isLength};
 ghost use Rattle.teeth.specs.Contracts.{PlannedFor};
 ghost use Rattle.kernels.specs.Tuning.{threeNumbers, djNumbers, rowNumbers, drivenNumbers, combNumbers, bandNumbers};
 ghost use Rattle.kernels.specs.Tuning.{multimodeNumbers, k35Numbers, gainNumbers, numbersOf, tuningOf, tunedOver, keyOf};
-ghost use Rattle.kernels.specs.Tuning.{blendedOf, blendedOver};
+ghost use Rattle.kernels.specs.Tuning.{blendedOf, blendedOver, drivenList};
 ghost use Rattle.poles.specs.Poles.{padOf};
-ghost use Rattle.kernels.specs.Contracts.{tableWith, Kept, KeptSections, KeptTeeth, TunedAt, BlendedAt};
+ghost use Rattle.kernels.specs.Contracts.{tableWith, Kept, KeptSections, KeptTeeth, TunedAt, DrivenAt, BlendedAt};
 use combs::Comb2;
 use expanders::Expander;
 use expanders::K35;
@@ -177,7 +177,7 @@ fn numbers_of(code: u32, pitch: Pitch, p: Settings, before: u32) -> JudgedNumber
 }
 
 // Whether two numbers are no NaN and have the same bits.
-fn same(a: f32, b: f32) -> bool
+pub fn same(a: f32, b: f32) -> bool
     ensures { λ r. ⌜ (r ≡ true → (isNan a ≡ false) × (a ≡ b)) ⌝ }
 {
     if a != a {
@@ -216,6 +216,41 @@ fn tuned(code: u32, pitch: Pitch, p: Settings, before: u32) -> Tuning
     }
 }
 
+// Whether the kept numbers are the driven ladder's (code 7) of this character, at whatever pitch.
+fn is_driven(code: u32, tuning: &[f32; 10], character: f32) -> bool
+    ensures { λ r. ⌜ (r ≡ true → DrivenAt code (now (tuning .entry)) character) ⌝ }
+{
+    if code != 7 {
+        return false;
+    }
+    if same(tuning[8], tuning[8]) {
+        return same(tuning[9], character);
+    }
+    false
+}
+
+// The driven ladder's numbers at another pitch: what follows from the character stays.
+fn driven_at(tuning: &[f32; 10], pitch: Pitch, reference: Ratio, character: f32) -> Tuning
+    ensures { λ r. ⌜ (r .numbers ≡ drivenList (now (tuning .entry)) pitch reference character) × (r .over ≡ once (overOf pitch reference)) ⌝ }
+{
+    let c = filter::judged_gain(pitch, reference);
+    Tuning {
+        numbers: [
+            c.g,
+            tuning[1],
+            tuning[2],
+            0.0,
+            0.0,
+            0.0,
+            0.0,
+            0.0,
+            pitch.0,
+            character,
+        ],
+        over: filter::once(c.over),
+    }
+}
+
 // Brings the kept numbers and count to this pitch and character.
 pub fn retune(
     code: u32,
@@ -231,6 +266,13 @@ pub fn retune(
         × (now (over .exit) ≡ tunedOver code pitch (keyOf reference chord character) (now (over .entry))) ⌝ }
 {
     if is_tuned(tuning, pitch.0, character) {
+        return;
+    }
+    if is_driven(code, tuning, character) {
+        let driven = driven_at(tuning, pitch, reference, character);
+        let at_pitch = driven.numbers;
+        *tuning = at_pitch;
+        *over = driven.over;
         return;
     }
     let next = tuned(

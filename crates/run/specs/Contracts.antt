@@ -18,8 +18,12 @@ use Rattle.run.specs.declared.Controls.{Controls}
 use Rattle.run.specs.declared.FrameInput.{FrameInput}
 use Rattle.run.specs.declared.Sample.{Sample}
 use Rattle.run.specs.declared.Structure.{Structure}
-use Rattle.run.specs.Run.{kernelTick, overTick, tickWith}
+use Rattle.run.specs.Run.{smoothOf, kernelTick, overTick, tickWith}
 use Rattle.peak.specs.Running.{settledOf}
+
+-- the glide has ended: smoothing leaves the smoothed numbers as they are
+abbrev pub Glided : (alpha : Float) (targets params : List Float) → Type 0
+Glided alpha targets params = smoothOf alpha targets params ≡ params
 
 -- the setup's table
 abbrev pub tableFor : Structure → (sections : List Float) → Table

@@ -2,6 +2,7 @@
 pub mod Run
 pub mod Contracts
 pub mod Laws
+pub mod Rest
 pub mod Unsteered
 pub mod Zeros
 pub mod Heard

@@ -1,5 +1,6 @@
 // One frame of one slot: the body of the frame loop of Run::go for the scalar lane, and the numbers worked out once a block.
 ghost use mathlib.Core.Path.{_≡_};
+ghost use mathlib.Core.Bool.{true};
 ghost use Prim.Native.Nat.{_≤_};
 ghost use lib.Ieee.{Float};
 ghost use Rattle.lane.specs.Floats.{_⊕_};
@@ -9,7 +10,7 @@ ghost use Rattle.kernels.specs.Contracts.{KernelLeaves};
 ghost use Rattle.run.specs.Run.{cleanDrive, constantsOf, signOf, smoothOf, lagShare, lagged, lagState, controlsAfter, stateAfter};
 ghost use Rattle.run.specs.Run.{drivenOf, mixOf};
 ghost use Rattle.peak.specs.Running.{Runs};
-ghost use Rattle.run.specs.Contracts.{Keeps, kernelOn, overOn, tickOn, TickLeaves, Widths, heldRecord};
+ghost use Rattle.run.specs.Contracts.{Glided, Keeps, kernelOn, overOn, tickOn, TickLeaves, Widths, heldRecord};
 use extended::Chord;
 use filter::Pitch;
 use filter::Ratio;
@@ -122,7 +123,7 @@ pub fn sign(channels: usize, channel: usize) -> f32
 }
 
 // The eleven smoothed numbers one frame further on the way to their targets.
-fn smooth(params: &mut [f32; 11], targets: &[f32; 11], alpha: f32)
+pub fn smooth(params: &mut [f32; 11], targets: &[f32; 11], alpha: f32)
     ensures { λ _. ⌜ now (params .exit) ≡ smoothOf alpha (now (targets .entry)) (now (params .entry)) ⌝ }
 {
     let next = [
@@ -139,6 +140,17 @@ fn smooth(params: &mut [f32; 11], targets: &[f32; 11], alpha: f32)
         (targets[10] - params[10]) * alpha + params[10],
     ];
     *params = next;
+}
+
+// The same; where their glide has ended they stay.
+fn smooth_on(params: &mut [f32; 11], targets: &[f32; 11], alpha: f32, glided: bool)
+    requires { ⌜ (glided ≡ true → Glided alpha (now targets) (now params)) ⌝ }
+    ensures { λ _. ⌜ now (params .exit) ≡ smoothOf alpha (now (targets .entry)) (now (params .entry)) ⌝ }
+{
+    if glided {
+        return;
+    }
+    smooth(params, targets, alpha);
 }
 
 // The pitch, X and Y that a frame's kernel takes.
@@ -290,7 +302,7 @@ fn kernel_tick(
 }
 
 // One frame of one slot. `tuning`, `blended`, `over`, `plan` and `teeth` hold the numbers kept from frame to frame, `peak` what runs in the
-// peak's place.
+// peak's place; `glided` says that smoothing leaves the smoothed numbers as they are.
 pub fn tick(
     m: Structure,
     sections: &[f32; 320],
@@ -306,20 +318,23 @@ pub fn tick(
     delay: &mut [f32],
     at: Ring,
     f: FrameInput,
+    glided: bool,
 ) -> Sample
     requires { ⌜ (Widths (now params) (now state)) × (StandsIn (now delay) at)
-        × (Keeps m (at .len) (now sections) (now tuning) (now blended) (now over) (now plan) (now teeth)) ⌝ }
+        × (Keeps m (at .len) (now sections) (now tuning) (now blended) (now over) (now plan) (now teeth))
+        × (glided ≡ true → Glided (m .k .alpha) (now targets) (now params)) ⌝ }
     ensures { λ r. ⌜ ((b : Float) → Runs b (now (peak .entry)) → Runs b (now (peak .exit)) × (TickLeaves
         (tickOn m (now (sections .entry)) at f (now (targets .entry)) (heldRecord (now (params .entry)) (now (state .entry)) b (now (peak .entry)))
         (now (delay .entry)))
         (now (delay .entry)) at r (heldRecord (now (params .exit)) (now (state .exit)) b (now (peak .exit))) (now (delay .exit))))
         × (r .over ≤ 8) × (Widths (now (params .exit)) (now (state .exit)))
         × (Keeps m (at .len) (now (sections .entry)) (now (tuning .exit)) (now (blended .exit)) (now (over .exit))
-        (now (plan .exit)) (now (teeth .exit))) ⌝ }
+        (now (plan .exit)) (now (teeth .exit)))
+        × (now (params .exit) ≡ smoothOf (m .k .alpha) (now (targets .entry)) (now (params .entry))) ⌝ }
 {
     let k = m.k;
     let pitch = f.pitch;
-    smooth(params, targets, k.alpha);
+    smooth_on(params, targets, k.alpha, glided);
     let controls = Controls {
         pitch: params[OFFSET] * f.sign + pitch.0,
         x: steer(params[MORPH_X], f.x),

@@ -4,3 +4,5 @@ pub mod Laws
 pub mod Heard
 pub mod Slots
 pub mod Frame
+pub mod Resting
+pub mod Records

@@ -1,19 +1,20 @@
-// The slots of a bank's lent lists: one slot started, one slot's frames, and a block through all slots.
+// The slots of a bank's lent lists: one slot started, loaded and stored, one frame of it, and the frames after a frame that left it as it was.
 ghost use mathlib.Core.Path.{_≡_};
 ghost use mathlib.Core.Bool.{true, cond};
 ghost use mathlib.Core.List.{[], _∷_, _++_};
 ghost use Prim.Native.Nat.{ℕ, _+_, _*_, _%_, _^_, _<_, _≤_};
 ghost use lib.Ieee.{Float};
-ghost use lib.ListN.{length, replicate, take, drop, set};
+ghost use lib.ListN.{length, replicate, take, drop};
 ghost use lib.Seq.{paste};
-ghost use Rattle.parts.specs.Parts.{upto, patch};
+ghost use Rattle.parts.specs.Parts.{patch};
 ghost use Rattle.lane.specs.Floats.{_‼_, zero};
 ghost use Rattle.extended.specs.Extended.{linesMark};
-ghost use Rattle.voices.specs.Calls.{smoothedWidth, statesWidth, recordWidth, recordZ, blockOf};
+ghost use Rattle.voices.specs.Calls.{smoothedWidth, targetsWidth, statesWidth, recordWidth, recordZ};
 ghost use Rattle.peak.specs.Running.{runningOf, settledOf, Runs};
-ghost use Rattle.run.specs.Contracts.{Keeps, Widths, recordOf};
-ghost use Rattle.slots.specs.Slots.{engineAt, blockOn, bankAt, blockRun, slotRun, Worked, Placed, Buffers, Lists};
-ghost use Rattle.slots.specs.Slots.{frameIn, slotIn, channelIn};
+ghost use Rattle.run.specs.Run.{smoothOf};
+ghost use Rattle.run.specs.Contracts.{Glided, Keeps, Widths, recordOf};
+ghost use Rattle.slots.specs.Slots.{slotRun, Worked, Placed, Buffers};
+ghost use Rattle.slots.specs.Slots.{frameIn, Signals, SameFrame, Rested, Settled};
 use extended::Chord;
 use filter::Pitch;
 use lines::Ring;
@@ -23,7 +24,7 @@ use voices::RECORD_WIDTH;
 use voices::TARGETS_WIDTH;
 
 // Where a record has its slot's peak and smoothed z, and where z stands among the smoothed numbers.
-const PEAK: usize = RECORD_WIDTH - 2;
+pub const PEAK: usize = RECORD_WIDTH - 2;
 
 const RECORD_Z: usize = RECORD_WIDTH - 1;
 
@@ -68,7 +69,7 @@ pub fn load_targets(list: &[f32], at: usize) -> [f32; 11]
 }
 
 // A slot's smoothed numbers: ten in front, z after its states and peak.
-fn load_smoothed(list: &[f32], at: usize) -> [f32; 11]
+pub fn load_smoothed(list: &[f32], at: usize) -> [f32; 11]
     requires { ⌜ at + recordWidth ≤ length (now list) ⌝ }
     ensures { λ r. ⌜ r ≡ take smoothedWidth (drop at (now (list .entry))) ++ now (list .entry) ‼ (at + recordZ) ∷ [] ⌝ }
 {
@@ -78,7 +79,7 @@ fn load_smoothed(list: &[f32], at: usize) -> [f32; 11]
 }
 
 // A slot's states.
-fn load_states(list: &[f32], at: usize) -> [f32; 20]
+pub fn load_states(list: &[f32], at: usize) -> [f32; 20]
     requires { ⌜ at + 20 ≤ length (now list) ⌝ }
     ensures { λ r. ⌜ r ≡ take 20 (drop at (now (list .entry))) ⌝ }
 {
@@ -88,7 +89,13 @@ fn load_states(list: &[f32], at: usize) -> [f32; 20]
 }
 
 // Stores a slot's record.
-fn store_record(records: &mut [f32], slot: usize, params: &[f32; 11], state: &[f32; 20], peak: f32)
+pub fn store_record(
+    records: &mut [f32],
+    slot: usize,
+    params: &[f32; 11],
+    state: &[f32; 20],
+    peak: f32,
+)
     requires { ⌜ slot * recordWidth + recordWidth ≤ length (now records) ⌝ }
     ensures { λ _. ⌜ now (records .exit) ≡ patch recordWidth slot (recordOf (now (params .entry)) (now (state .entry)) peak) (now (records .entry)) ⌝ }
 {
@@ -156,7 +163,7 @@ pub struct Slot {
 }
 
 // The slot of a channel and a voice.
-fn slot_at(e: Prepared, channel: usize, voice: usize) -> Slot
+pub fn slot_at(e: Prepared, channel: usize, voice: usize) -> Slot
     requires { ⌜ (Worked e) × (channel < e .channels) × (voice < e .voices) ⌝ }
     ensures { λ r. ⌜ (Placed e r) × (r .channel ≡ channel) × (r .voice ≡ voice) ⌝ }
 {
@@ -191,8 +198,9 @@ fn steering_at(steered: bool, list: &[f32], i: usize) -> f32
 }
 
 // One frame of a slot, with the slot's record in hand: how often it judged a ratio greater than its cap. `tuning`, `blended`, `over`, `plan`
-// and `teeth` hold the numbers kept from frame to frame, `peak` what runs in the peak's place.
-fn frame(
+// and `teeth` hold the numbers kept from frame to frame, `peak` what runs in the peak's place; `glided` says that smoothing leaves the smoothed
+// numbers as they are.
+pub fn frame(
     e: Prepared,
     sections: &[f32; 320],
     tuning: &mut [f32; 10],
@@ -211,9 +219,11 @@ fn frame(
     audio: &mut [f32],
     p: Slot,
     f: usize,
+    glided: bool,
 ) -> u32
     requires { ⌜ (Worked e) × (Placed e p) × (Buffers e (now pitch) (now x) (now y) (now delay) (now audio)) × (f < e .frames)
-        × (Widths (now params) (now state)) × (Keeps (e .m) (e .len) (now sections) (now tuning) (now blended) (now over) (now plan) (now teeth)) ⌝ }
+        × (Widths (now params) (now state)) × (Keeps (e .m) (e .len) (now sections) (now tuning) (now blended) (now over) (now plan) (now teeth))
+        × (glided ≡ true → Glided (e .m .k .alpha) (now targets) (now params)) ⌝ }
     ensures { λ r. ⌜ ((b : Float) → Runs b (now (peak .entry)) → Runs b (now (peak .exit))
         × ((k : ℕ) → slotRun (now (params .exit)) (now (state .exit)) b (now (peak .exit)) (now (delay .exit)) (now (audio .exit)) (k + r)
         ≡ frameIn e (now (sections .entry)) (now (targets .entry)) (now (pitch .entry)) (now (x .entry)) (now (y .entry)) p f
@@ -221,7 +231,8 @@ fn frame(
         × (r ≤ 8)
         × (Widths (now (params .exit)) (now (state .exit)))
         × (Keeps (e .m) (e .len) (now (sections .entry)) (now (tuning .exit)) (now (blended .exit)) (now (over .exit))
-        (now (plan .exit)) (now (teeth .exit))) ⌝ }
+        (now (plan .exit)) (now (teeth .exit)))
+        × (now (params .exit) ≡ smoothOf (e .m .k .alpha) (now (targets .entry)) (now (params .entry))) ⌝ }
 {
     let m = e.m;
     let at = place_at(f, e.slots, p.number, e.frames, audio.len());
@@ -257,215 +268,150 @@ fn frame(
         delay,
         ring,
         given,
+        glided,
     );
     audio[at] = s.out;
     s.over
 }
 
-// The frames of a slot, with the slot's record in hand: the slot's count.
-fn run_frames(
+// Whether n numbers of a list are, bit for bit and none of them NaN, those at a place of another.
+pub fn is_same(list: &[f32], from: usize, other: &[f32], n: usize) -> bool
+    requires { ⌜ (from + n ≤ length (now list)) × (n ≤ length (now other)) ⌝ }
+    ensures { λ r. ⌜ (r ≡ true → take n (now (other .entry)) ≡ take n (drop from (now (list .entry)))) ⌝ }
+{
+    let mut i: usize = 0;
+    while i < n {
+        if !kernels::tuning::same(other[i], list[from + i]) {
+            return false;
+        }
+        i += 1;
+    }
+    true
+}
+
+// Whether frame f brings a slot what frame 0 did: its pitch, its steering and the input that frame 0 had.
+fn is_same_frame(
     e: Prepared,
-    sections: &[f32; 320],
-    tuning: &mut [f32; 10],
-    blended: &mut [f32; 44],
-    over: &mut u32,
-    plan: &mut [usize; 65],
-    teeth: &mut [f32; 9],
-    targets: &[f32; 11],
-    params: &mut [f32; 11],
-    state: &mut [f32; 20],
-    peak: &mut f32,
-    delay: &mut [f32],
+    pitch: &[f32],
+    x: &[f32],
+    y: &[f32],
+    audio: &[f32],
+    p: Slot,
+    input: f32,
+    f: usize,
+) -> bool
+    requires { ⌜ (Placed e p) × (Signals e (now pitch) (now x) (now y) (now audio)) × (f < e .frames) ⌝ }
+    ensures { λ r. ⌜ (r ≡ true → SameFrame e (now (pitch .entry)) (now (x .entry)) (now (y .entry)) (now (audio .entry)) p input f) ⌝ }
+{
+    let at = place_at(f, e.slots, p.number, e.frames, audio.len());
+    let from = place_at(f, e.voices, p.voice, e.frames, pitch.len());
+    let first = p.voice;
+    let by_x = steering_at(e.steered, x, from);
+    let by_y = steering_at(e.steered, y, from);
+    let first_x = steering_at(e.steered, x, first);
+    let first_y = steering_at(e.steered, y, first);
+    if kernels::tuning::same(pitch[from], pitch[first]) {
+        if kernels::tuning::same(audio[at], input) {
+            if kernels::tuning::same(by_x, first_x) {
+                return kernels::tuning::same(by_y, first_y);
+            }
+        }
+    }
+    false
+}
+
+// Stores frame 0's sample in the frames after it that bring a slot what frame 0 did: the first that does not.
+pub fn rest(
+    e: Prepared,
     pitch: &[f32],
     x: &[f32],
     y: &[f32],
     audio: &mut [f32],
     p: Slot,
-) -> u32
-    requires { ⌜ (Worked e) × (Placed e p) × (Buffers e (now pitch) (now x) (now y) (now delay) (now audio))
-        × (Widths (now params) (now state)) × (Keeps (e .m) (e .len) (now sections) (now tuning) (now blended) (now over) (now plan) (now teeth)) ⌝ }
-    ensures { λ r. ⌜ ((b : Float) → Runs b (now (peak .entry))
-        → slotRun (now (params .exit)) (now (state .exit)) b (now (peak .exit)) (now (delay .exit)) (now (audio .exit)) r
-        ≡ upto (frameIn e (now (sections .entry)) (now (targets .entry)) (now (pitch .entry)) (now (x .entry)) (now (y .entry)) p) (e .frames)
-        (slotRun (now (params .entry)) (now (state .entry)) b (now (peak .entry)) (now (delay .entry)) (now (audio .entry)) 0)) ⌝ }
+    input: f32,
+) -> usize
+    requires { ⌜ (Worked e) × (Placed e p) × (Signals e (now pitch) (now x) (now y) (now audio)) × (0 < e .frames) ⌝ }
+    ensures { λ r. ⌜ Rested e (now (pitch .entry)) (now (x .entry)) (now (y .entry)) p input (now (audio .entry)) (now (audio .exit)) r ⌝ }
 {
     let frames = e.frames;
-    let mut count: u32 = 0;
-    let mut f: usize = 0;
+    let first = p.number;
+    let sample = audio[first];
+    let mut f: usize = 1;
     while f < frames {
-        let met = frame(
-            e,
-            sections,
-            tuning,
-            blended,
-            over,
-            plan,
-            teeth,
-            targets,
-            params,
-            state,
-            peak,
-            delay,
-            pitch,
-            x,
-            y,
-            audio,
-            p,
-            f,
-        );
-        count += met;
+        if !is_same_frame(e, pitch, x, y, audio, p, input, f) {
+            return f;
+        }
+        let at = place_at(f, e.slots, first, frames, audio.len());
+        audio[at] = sample;
         f += 1;
     }
-    count
+    f
 }
 
-// Puts what runs in a peak's place where the peak stood, and gives the peak.
-fn hold_peak(records: &mut [f32], at: usize) -> f32
-    requires { ⌜ at < length (now records) ⌝ }
-    ensures { λ r. ⌜ (r ≡ now (records .entry) ‼ at) × (now (records .exit) ≡ set (now (records .entry)) at (runningOf r))
-        × (Runs r (runningOf r)) × (settledOf r (runningOf r) ≡ r) ⌝ }
+// After frame 0 of a slot: where it left the record as it was, the frames that bring the same again are stored. Whether it did.
+pub fn settle(
+    e: Prepared,
+    was_params: &[f32; 11],
+    was_state: &[f32; 20],
+    was_peak: f32,
+    params: &[f32; 11],
+    state: &[f32; 20],
+    peak: f32,
+    pitch: &[f32],
+    x: &[f32],
+    y: &[f32],
+    audio: &mut [f32],
+    p: Slot,
+    input: f32,
+    count: &mut u32,
+    next: &mut usize,
+) -> bool
+    requires { ⌜ (Worked e) × (Placed e p) × (Signals e (now pitch) (now x) (now y) (now audio))
+        × (length (now «was_params») ≡ targetsWidth) × (length (now «was_state») ≡ statesWidth)
+        × (length (now params) ≡ targetsWidth) × (length (now state) ≡ statesWidth) × (now count ≤ 8) ⌝ }
+    ensures { λ r. ⌜ Settled e (now (pitch .entry)) (now (x .entry)) (now (y .entry)) p input
+        (now («was_params» .entry)) (now («was_state» .entry)) «was_peak» (now (params .entry)) (now (state .entry)) peak
+        (now (audio .entry)) (now (audio .exit)) (now (count .entry)) (now (count .exit)) (now (next .entry)) (now (next .exit)) r ⌝ }
 {
-    let peak = records[at];
+    let m = e.m;
+    if extended::has_lines(m.code) {
+        return false;
+    }
+    if !is_same(was_state, 0, state, 20) {
+        return false;
+    }
+    if !is_same(was_params, 0, params, 11) {
+        return false;
+    }
+    if !kernels::tuning::same(peak, was_peak) {
+        return false;
+    }
+    let f = rest(e, pitch, x, y, audio, p, input);
+    let met = *count;
+    *count = f as u32 * met;
+    *next = f;
+    true
+}
+
+// What runs in a peak's place while a block runs.
+pub fn running(peak: f32) -> f32
+    ensures { λ r. ⌜ (r ≡ runningOf peak) × (Runs peak r) × (settledOf peak r ≡ peak) ⌝ }
+{
     if peak::is_plain(peak) {
         return peak;
     }
-    records[at] = -1.0;
-    peak
+    -1.0
 }
 
-// A block through one slot: its record is loaded, worked frame by frame, and stored; its count is written. What runs in the peak's place stands in
-// the list itself: in a register it would take the place of a number that every frame reads.
-fn run_slot(
-    e: Prepared,
-    sections: &[f32; 320],
-    targets: &[f32],
-    records: &mut [f32],
-    delay: &mut [f32],
-    pitch: &[f32],
-    x: &[f32],
-    y: &[f32],
-    audio: &mut [f32],
-    counts: &mut [u32],
-    p: Slot,
-)
-    requires { ⌜ (Worked e) × (Lists e (now targets) (now records) (now counts)) × (Buffers e (now pitch) (now x) (now y) (now delay) (now audio))
-        × (Placed e p) ⌝ }
-    ensures { λ _. ⌜ blockRun (now (records .exit)) (now (delay .exit)) (now (audio .exit)) (now (counts .exit))
-        ≡ slotIn e (now (sections .entry)) (now (targets .entry)) (now (pitch .entry)) (now (x .entry)) (now (y .entry)) (p .channel) (p .voice)
-        (blockRun (now (records .entry)) (now (delay .entry)) (now (audio .entry)) (now (counts .entry))) ⌝ }
+// Whether the glide of a slot's smoothed numbers has ended; it is not asked of a place that has no slot of its own.
+pub fn has_glided(params: &[f32; 11], targets: &[f32; 11], alpha: f32, own: bool) -> bool
+    requires { ⌜ length (now params) ≡ targetsWidth ⌝ }
+    ensures { λ r. ⌜ (r ≡ true → Glided alpha (now (targets .entry)) (now (params .entry))) ⌝ }
 {
-    let from = start_of(p.voice, TARGETS_WIDTH, e.voices, targets.len());
-    let at = start_of(p.number, RECORD_WIDTH, e.slots, records.len());
-    let goals = load_targets(targets, from);
-    let mut params = load_smoothed(records, at);
-    let mut state = load_states(records, at + 10);
-    let peak = hold_peak(records, at + PEAK);
-    let mut tuning = [0.0f32 / 0.0; 10];
-    let mut blended = [0.0f32 / 0.0; 44];
-    let mut over: u32 = 0;
-    let mut plan = [0usize; 65];
-    let mut teeth = [0.0f32 / 0.0; 9];
-    let count = run_frames(
-        e,
-        sections,
-        &mut tuning,
-        &mut blended,
-        &mut over,
-        &mut plan,
-        &mut teeth,
-        &goals,
-        &mut params,
-        &mut state,
-        &mut records[at + PEAK],
-        delay,
-        pitch,
-        x,
-        y,
-        audio,
-        p,
-    );
-    let after = peak::settled(peak, records[at + PEAK]);
-    store_record(records, p.number, &params, &state, after);
-    let slot = p.number;
-    counts[slot] = count;
-}
-
-// A block through the slots of one channel.
-fn run_channel(
-    e: Prepared,
-    sections: &[f32; 320],
-    targets: &[f32],
-    records: &mut [f32],
-    delay: &mut [f32],
-    pitch: &[f32],
-    x: &[f32],
-    y: &[f32],
-    audio: &mut [f32],
-    counts: &mut [u32],
-    channel: usize,
-)
-    requires { ⌜ (Worked e) × (Lists e (now targets) (now records) (now counts)) × (Buffers e (now pitch) (now x) (now y) (now delay) (now audio))
-        × (channel < e .channels) ⌝ }
-    ensures { λ _. ⌜ blockRun (now (records .exit)) (now (delay .exit)) (now (audio .exit)) (now (counts .exit))
-        ≡ channelIn e (now (sections .entry)) (now (targets .entry)) (now (pitch .entry)) (now (x .entry)) (now (y .entry)) channel
-        (blockRun (now (records .entry)) (now (delay .entry)) (now (audio .entry)) (now (counts .entry))) ⌝ }
-{
-    let voices = e.voices;
-    let mut v: usize = 0;
-    while v < voices {
-        let p = slot_at(e, channel, v);
-        run_slot(
-            e,
-            sections,
-            targets,
-            records,
-            delay,
-            pitch,
-            x,
-            y,
-            audio,
-            counts,
-            p,
-        );
-        v += 1;
+    if !own {
+        return false;
     }
-}
-
-// A block through every slot.
-pub fn run_block(
-    e: Prepared,
-    sections: &[f32; 320],
-    targets: &[f32],
-    records: &mut [f32],
-    delay: &mut [f32],
-    pitch: &[f32],
-    x: &[f32],
-    y: &[f32],
-    audio: &mut [f32],
-    counts: &mut [u32],
-)
-    requires { ⌜ (Worked e) × (Lists e (now targets) (now records) (now counts)) × (Buffers e (now pitch) (now x) (now y) (now delay) (now audio)) ⌝ }
-    ensures { λ _. ⌜ blockRun (now (records .exit)) (now (delay .exit)) (now (audio .exit)) (now (counts .exit))
-        ≡ blockOf (engineAt e (now (sections .entry))) (e .voices)
-        (blockOn e (now (pitch .entry)) (now (x .entry)) (now (y .entry)) (now (audio .entry)) (now (counts .entry)))
-        (bankAt e (now (targets .entry)) (now (records .entry)) (now (delay .entry))) ⌝ }
-{
-    let channels = e.channels;
-    let mut c: usize = 0;
-    while c < channels {
-        run_channel(
-            e,
-            sections,
-            targets,
-            records,
-            delay,
-            pitch,
-            x,
-            y,
-            audio,
-            counts,
-            c,
-        );
-        c += 1;
-    }
+    let mut next = *params;
+    run::smooth(&mut next, targets, alpha);
+    is_same(&next, 0, params, 11)
 }

@@ -39,6 +39,7 @@ run-block-requires c κs =
       record {
         voices = s .voices;
         channels = s .channels;
+        some = k .least;
         frames = k .most;
         slots = refl;
         len = len .ensures;

@@ -18,6 +18,7 @@ tick-requires c κs =
       s .pre .4,
       view-good (e .len) (p .number) _ (s .pre .0 .good) (omega (arith, s .pre .2 .delay, piece-fits (e .len) (p .number) (e .slots) (s .pre .1 .below))),
       s .pre .5,
+      s .pre .6,
     )
 
 returns : tie.Need-returns
@@ -41,6 +42,7 @@ returns c =
       tick .1,
       tick .2,
       tick .3,
+      tick .4,
     )
 
 pub frame-spec : {M : Type 1} → statement M

@@ -8,7 +8,7 @@ use lib.Ieee.{Float}
 use lib.ListN.{set, drop, length-drop}
 use Rattle.lane.specs.Floats.{_‼_}
 use Rattle.voices.specs.Calls.{recordZ}
-use Rattle.slots.proofs.Laws.{last-replaced}
+use Rattle.slots.specs.Records.{last-replaced}
 use Rattle.slots.proofs.load_smoothed.Statement.{statement}
 use Rattle.slots.proofs.load_smoothed.Tie as tie
 

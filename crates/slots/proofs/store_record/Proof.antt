@@ -12,7 +12,7 @@ use Rattle.lane.specs.Floats.{_‼_}
 use Rattle.filter.specs.Voice.{«MORPH_Z»}
 use Rattle.run.specs.Run.{PEAK}
 use Rattle.voices.specs.Calls.{smoothedWidth, statesWidth, recordWidth, recordZ}
-use Rattle.slots.proofs.Laws.{record-stored}
+use Rattle.slots.specs.Records.{record-stored}
 use Rattle.slots.proofs.store_record.Statement.{statement}
 use Rattle.slots.proofs.store_record.Tie as tie
 

@@ -1,0 +1,1 @@
+// Laws only: two slots in one frame loop, a slot at rest.
