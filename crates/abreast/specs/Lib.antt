@@ -1,2 +1,2 @@
-pub mod Rest
 pub mod Abreast
+pub mod Rest

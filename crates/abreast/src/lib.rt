@@ -1,1 +1,3 @@
 // Laws only: two slots in one frame loop, a slot at rest.
+
+#![tactic(auto)]

@@ -2,7 +2,8 @@
 use Rattle.std.specs.Prelude.{◌≡◌, ℕ, List, [], ◌∷◌, Float}
 use Rattle.std.proofs.Common.{sym, ap, ◌∙◌}
 use Rattle.voices.specs.Calls.{Bank, Block, rendered, Run}
-use Rattle.voices.specs.Audition.{committed, BlockAsHeard, FromScratch, Anywhere, block_as_heard, from_scratch, anywhere}
+use Rattle.voices.specs.Audition.{committed, BlockAsHeard, FromScratch, Anywhere}
+use Rattle.voices.proofs.Audition.{block_as_heard, from_scratch, anywhere}
 use Rattle.checks.specs.declared.Setup.{Setup}
 use Rattle.checks.specs.Setup.{engine}
 use Rattle.checks.specs.Checks.{bank_of}

@@ -1,4 +1,6 @@
 // Audition (document 02, C-16): a block is heard before it is committed, on a copy of the bank in scratch lists that the caller lends.
+#![tactic(auto)]
+
 ghost use Rattle.checks.specs.Checks.{bank_of, block_from};
 ghost use Rattle.auditions.specs.Audition.{AuditionDoes};
 

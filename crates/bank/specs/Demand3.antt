@@ -1,5 +1,5 @@
 -- Demand 3 at the bank's engine (document 01, 'A voice from its feed'; document 02, C-11: counts are compared too; C-12 and C-16: lists with park,
--- restore and audition; C-17, C-18: ignored numbers): the two statements, then their proofs from voices/specs/Voice and the engine's laws. That a call
+-- restore and audition; C-17, C-18: ignored numbers): the two statements, then their proofs from voices/proofs/Voice and the engine's laws. That a call
 -- in a list does what its contract says of a bank alone is voices/specs/Alone. Assumes nothing.
 use Rattle.std.specs.Prelude.{◌≡◌, ℕ, ◌<◌, List}
 use Rattle.std.proofs.Math.Path.{transport}
@@ -9,7 +9,7 @@ use Rattle.slots.specs.Laws.{engine_laws}
 use Rattle.slots.specs.Heard.{same_engine}
 use Rattle.voices.specs.Calls.{fine, Bank, Call, Run, open_verdict, opened, run, Returning}
 use Rattle.voices.specs.Feed.{Event, feed, Same, Alike}
-use Rattle.voices.specs.Voice.{theorem, corollary}
+use Rattle.voices.proofs.Voice.{theorem, corollary}
 use Rattle.checks.specs.declared.Setup.{Setup}
 use Rattle.checks.specs.Setup.{solo_of, engine}
 

@@ -1,4 +1,6 @@
 // The voice filter bank: open, set, start and block on lists that the caller lends.
+#![tactic(auto)]
+
 ghost use Rattle.std.specs.Prelude.{◌≡◌, ◌*◌, ◌<◌, length};
 ghost use Rattle.filter.specs.Voice.{voice_targets};
 ghost use Rattle.parts.specs.Parts.{patch};
@@ -15,7 +17,7 @@ use slots::Prepared;
 use voices::TARGETS_WIDTH;
 
 // A refusal's number; of set and start the cursor that they were given; of block the new cursor and the frames rendered.
-#[derive(Drop)]
+#[derive(Clone, Copy)]
 pub enum Answer {
     Refused(u32),
     Kept(usize),
@@ -66,7 +68,7 @@ fn open_voices(setup: Setup, targets: &mut [f32], records: &mut [f32], delay: &m
 }
 
 // The answer of open, and the setup given back.
-#[derive(Drop)]
+#[derive(Clone, Copy)]
 pub struct Opened {
     pub answer: Answer,
     pub setup: Setup,

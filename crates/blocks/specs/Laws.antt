@@ -1,6 +1,6 @@
 -- For the proofs: nothing here must be believed.
 -- Laws of blocks: what was written is what is read, a written block is sound, a block in the making, and the words of a block of a file. Assumes nothing.
-use Rattle.std.specs.Prelude.{◌≡◌, refl, Bool, true, cond, ℕ, zero, suc, ◌+◌, ◌-◌, ◌*◌, ◌%◌, ◌≤◌, ◌<◌, List, ◌∷◌, ◌++◌, length, get_or, drop}
+use Rattle.std.specs.Prelude.{◌≡◌, refl, Bool, true, cond, ℕ, zero, suc, ◌+◌, ◌*◌, ◌%◌, ◌≤◌, ◌<◌, List, ◌∷◌, ◌++◌, length, get_or, drop}
 use Rattle.std.proofs.Common.{sym, ap, ◌∙◌, le_refl, arith, length-append, length-drop, lt-ltb, eq-eqb}
 use Rattle.std.proofs.Math.Nat.{le_step}
 use Rattle.parts.specs.Parts.{flat, piece, patch}

@@ -1,4 +1,6 @@
 // A block of 512 bytes: written from a head and up to 126 words, and its sum checked.
+#![tactic(auto)]
+
 ghost use Rattle.std.specs.Prelude.{◌≡◌, ◌+◌, ◌*◌, ◌≤◌, ◌<◌, length};
 ghost use Rattle.parts.specs.Parts.{patch};
 ghost use Rattle.blocks.specs.Blocks.{head_of, body_word, closing, block_bytes, sound_block};

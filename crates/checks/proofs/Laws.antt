@@ -1,16 +1,15 @@
 -- What a test in the code says of the test in the definition, and checks that follow one another. Assumes nothing.
 use mathlib.Core.Path.{◌≡◌, refl, sym, ap, ◌∙◌}
-use mathlib.Core.Bool.{Bool, true, false, not}
+use mathlib.Core.Bool.{Bool, true, false}
 use Prim.Native.Nat.{ℕ}
-use borrow.Author.Tests.{not-true, not-false}
 use Rattle.voices.specs.Calls.{Check, fine, refused, ◌then◌}
 
 -- `if !t(..) { return ..; }`
-pub passes : {r t : Bool} → not r ≡ false → r ≡ t → t ≡ true
-passes {r} l e = sym e ∙ not-false r l
+pub passes : {r t : Bool} → r ≡ true → r ≡ t → t ≡ true
+passes l e = sym e ∙ l
 
-pub fails : {r t : Bool} → not r ≡ true → r ≡ t → t ≡ false
-fails {r} l e = sym e ∙ not-true r l
+pub fails : {r t : Bool} → r ≡ false → r ≡ t → t ≡ false
+fails l e = sym e ∙ l
 
 -- checks that follow a refusal, and that follow none
 pub after_refused : (a c : Check) {k : ℕ} → a ≡ refused k → a then c ≡ refused k

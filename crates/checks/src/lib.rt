@@ -1,4 +1,6 @@
 // The checks of the bank's calls, in the order of the refusals' numbers. Each call makes those whose values it takes.
+#![tactic(auto)]
+
 ghost use Rattle.std.specs.Prelude.{◌≡◌, cond, [], ◌*◌, ◌<◌, length};
 ghost use Rattle.setups.specs.Setup.{reference_refused, within, codes_check_of, offset_refused, chord_refused, setup_check_of};
 ghost use Rattle.lines.specs.Lines.{ring_len};
@@ -13,7 +15,7 @@ use pole_zero::Table;
 use voices::{RECORD_WIDTH, TARGETS_WIDTH};
 
 // What a bank is opened with, and every later call is given again.
-#[derive(Drop)]
+#[derive(Clone, Copy)]
 pub struct Setup {
     pub code: u32,
     pub rate: f32,
@@ -26,7 +28,7 @@ pub struct Setup {
 }
 
 // What the checks of a call come to.
-#[derive(Drop)]
+#[derive(Clone, Copy)]
 pub enum Verdict {
     Fine,
     Refused(u32),
@@ -221,8 +223,8 @@ fn is_clear(list: &[f32], width: usize, place: usize, rows: usize) -> bool
 
 // Whether z has no bit set, in the targets of every voice and the record of every slot (C-17).
 fn is_flat(setup: Setup, targets: &[f32], records: &[f32]) -> bool
-    requires targets_len { (length targets.now ≡ setup.voices * targets_width) × (length records.now ≡ setup.channels * setup.voices * record_width) }
-    requires voices_value { setup_check_of (solo_of setup) setup.voices ≡ fine }
+    requires lists { (length targets.now ≡ setup.voices * targets_width) × (length records.now ≡ setup.channels * setup.voices * record_width) }
+    requires accepted { setup_check_of (solo_of setup) setup.voices ≡ fine }
     ensures { result ≡ is_flat setup.channels setup.voices (bank_of targets.now records.now [] 0) }
 {
     let slots = setup.channels * setup.voices;

@@ -1,7 +1,8 @@
 -- How far the rounding in soft_clip strays (document 02, C-19), with both sides as fractions of whole numbers. For every finite input, with v the input
--- held to -3 .. 3, the output differs from v(v² + 27) / (9v² + 27) by at most 2^-21: `clip_strays`. Indeed by at most 2^-22, `clip_strays_less`; but for some
--- input by more than 2^-23, `strays_more`. The most over all f32 is 3.3615 × 2^-24, at that input (`compare/clip.sh`). Assumes nothing.
-use Rattle.std.specs.Prelude.{◌≡◌, refl, Bool, true, ℕ, ◌+◌, ◌*◌, ◌^◌, ◌≤◌, min, ℤ, T, leb, Float}
+-- held to -3 .. 3, the output differs from v(v² + 27) / (9v² + 27) by at most 2^-21: `clip_strays`
+-- (proofs/Clip.antt). Indeed by at most 2^-22, `clip_strays_less`; but for some input by more than 2^-23, `strays_more`. The most over all f32 is
+-- 3.3615 × 2^-24, at that input (`compare/clip.sh`). Assumes nothing.
+use Rattle.std.specs.Prelude.{◌≡◌, refl, true, ℕ, ◌+◌, ◌*◌, ◌^◌, ◌≤◌, min, T, leb, Float}
 use Rattle.std.proofs.Common.{sym, subst, arith, lit≤, le→leb}
 use Rattle.std.specs.Float.{nan, inf, fin, binary32}
 use Rattle.std.specs.Float.Ieee.{up, down, of_bits, round, add, sum, mul, div, neg, lt, is_nan}
@@ -28,19 +29,6 @@ exact_clip v =
 abbrev pub StraysByAtMostOneOver : ℕ → Type 0
 StraysByAtMostOneOver n = (x : Float) → finite x ≡ true → WithinOneOver n (value_of (soft_clip x)) (exact_clip (held_to3 (value_of x)))
 
--- ---- for the proofs: the numbers that the bound was worked out for are those of the definitions
-held_is : (s : Bool) (m : ℕ) (e : ℤ) → (held_to3 (value_of (fin s m e))).numerator ≡ min (m * up e) (3 * down e)
-unfolding value_of held_to3
-held_is s m e = omega arith
-
-numerator_is : (v : Fraction) (w : ℕ) → v.numerator ≡ w → (exact_clip v).numerator ≡ w * over w v.denominator
-unfolding exact_clip
-numerator_is v w h = subst (λ (z : ℕ). (exact_clip v).numerator ≡ z * over z v.denominator) h (omega arith)
-
-denominator_is : (v : Fraction) (w : ℕ) → v.numerator ≡ w → (exact_clip v).denominator ≡ v.denominator * under w v.denominator
-unfolding exact_clip
-denominator_is v w h = subst (λ (z : ℕ). (exact_clip v).denominator ≡ v.denominator * under z v.denominator) h (omega arith)
-
 -- ---- by at most 2^-22
 pub clip_strays_less : StraysByAtMostOneOver (2 ^ 22)
 unfolding value_of held_to3 exact_clip
@@ -48,15 +36,22 @@ clip_strays_less nan f = absurd (subst T (sym f) tt)
 clip_strays_less (inf s) f = absurd (subst T (sym f) tt)
 clip_strays_less (fin s m e) f =
     let y = value_of (soft_clip (fin s m e)) in
-    let v = held_to3 (value_of (fin s m e)) in
     let w = min (m * up e) (3 * down e) in
-    let h = held_is s m e in
-    written_alike y (clip_at s w (down e)) (exact_clip v) refl (numerator_is v w h) (denominator_is v w h)
+    written_alike y (clip_at s w (down e)) (exact_clip v) refl (numerator_is w held_is) (denominator_is w held_is)
     (weaker_bound (2 ^ 22) (2 ^ 22) y (clip_at s w (down e)) (lit≤ tt) (near_clip s m e))
+  where
+    v : Fraction
+    v = held_to3 (value_of (fin s m e))
 
--- ---- C-19: so by at most 2^-21
-pub clip_strays : StraysByAtMostOneOver (2 ^ 21)
-clip_strays x f = weaker_bound (2 ^ 21) (2 ^ 22) (value_of (soft_clip x)) (exact_clip (held_to3 (value_of x))) (lit≤ tt) (clip_strays_less x f)
+    -- the numbers that the bound was worked out for are those of the definitions
+    held_is : v.numerator ≡ min (m * up e) (3 * down e)
+    held_is = omega arith
+
+    numerator_is : (w : ℕ) → v.numerator ≡ w → (exact_clip v).numerator ≡ w * over w v.denominator
+    numerator_is w h = subst (λ (z : ℕ). (exact_clip v).numerator ≡ z * over z v.denominator) h (omega arith)
+
+    denominator_is : (w : ℕ) → v.numerator ≡ w → (exact_clip v).denominator ≡ v.denominator * under w v.denominator
+    denominator_is w h = subst (λ (z : ℕ). (exact_clip v).denominator ≡ v.denominator * under z v.denominator) h (omega arith)
 
 -- ---- but not by at most 2^-23: of 2.0643251, which is 8658407 / 2^22, the output differs by more
 abbrev pub worst : Float

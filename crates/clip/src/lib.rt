@@ -1,1 +1,2 @@
 // How far the rounding in soft_clip strays: a bound, over whole numbers. No code.
+#![tactic(auto)]

@@ -23,7 +23,7 @@ unfoldable pub comb_loop : FeedbackPath → (taps x : Float) → Float
 comb_loop c taps x = fma c.feedback (soft_clip (taps ⊗ c.inv_knee) ⊗ c.knee) x
 
 -- the tick on one ring of len cells: the sample, and the ring with the cursor's cell written. No bad view reaches it: a block's rings
--- have the length of an accepted rate and stand within the list (`Block-view`, view/specs/View.antt)
+-- have the length of an accepted rate and stand within the list (`block_view`, view/specs/View.antt)
 pub record Combed : Type 0 where
   pub out : Float
   pub ring : List Float

@@ -1,6 +1,8 @@
 // Comb II: a feedback comb whose loop reads two taps on the delay lines, one period of the cutoff back and one period of a second
 // frequency back, averaged, with a soft clipper in the loop. The output is scaled by 1 - feedback. The chord comb: the same over up to
 // eight taps.
+#![tactic(auto)]
+
 ghost use Rattle.std.specs.Prelude.{◌≡◌};
 ghost use Rattle.lane.specs.Floats.{◌‼◌};
 ghost use Rattle.lines.specs.Ring.{StandsIn};
@@ -20,14 +22,14 @@ const COMB_OCTAVES: f32 = 2.0;
 const COMB_FEEDBACK_MAX: f32 = 0.98;
 
 // What both combs' loops have of the settings.
-#[derive(Drop)]
+#[derive(Clone, Copy)]
 pub struct FeedbackPath {
     pub feedback: f32,
     pub inv_knee: f32,
     pub knee: f32,
 }
 
-#[derive(Drop)]
+#[derive(Clone, Copy)]
 pub struct Comb2 {
     pub first: f32,
     pub second: f32,

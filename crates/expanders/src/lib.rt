@@ -1,5 +1,7 @@
 // The expanders and the K35. Each has what follows from the pitch and the settings alone, in a struct of its name, and the step over
 // the input and the states.
+#![tactic(auto)]
+
 ghost use Rattle.std.specs.Prelude.{◌≡◌};
 ghost use Rattle.filter.specs.declared.Pitch.{Pitch};
 ghost use Rattle.filter.specs.Filter.{gain_of};
@@ -18,7 +20,7 @@ const LADDER_MAX: f32 = 4.1;
 const LADDER_COMPENSATION: f32 = 0.5;
 
 // The expanders: four one-pole stages with feedback from the last, their output a mix of the ladder's input and its four stages.
-#[derive(Drop)]
+#[derive(Clone, Copy)]
 pub struct Expander {
     pub gg: f32,
     pub h: f32,
@@ -141,7 +143,7 @@ pub fn multimode_step(c: Expander, w: Five, state: &mut [f32; 20], x: f32) -> f3
 
 // The K35: a Sallen-Key low-pass and a high-pass, both running, with a saturator on the feedback amplifier; character picks one,
 // crossfading over a tenth of its range.
-#[derive(Drop)]
+#[derive(Clone, Copy)]
 pub struct K35 {
     pub gg: f32,
     pub h: f32,
@@ -190,7 +192,7 @@ fn k35_den(c: K35, k: f32) -> f32
 }
 
 // One half's output and its states after it.
-#[derive(Drop)]
+#[derive(Clone, Copy)]
 pub struct Half35 {
     pub out: f32,
     pub s0: f32,

@@ -1,11 +1,13 @@
 // What every extended kernel works with: one tick's settings and the shapers.
+#![tactic(auto)]
+
 ghost use Rattle.std.specs.Prelude.{◌≡◌, Bool};
 ghost use Rattle.extended.specs.Extended.{settings_at, unit_or0, abs_of, asym_slope, asym_of, smooth_mark, lines_mark};
 
 use filter::Ratio;
 
 // The chord comb's teeth (code 13): how many, and each one's octaves above the cutoff.
-#[derive(Drop)]
+#[derive(Clone, Copy)]
 pub struct Chord {
     pub count: u32,
     pub offsets: [f32; 8],
@@ -13,7 +15,7 @@ pub struct Chord {
 
 // One sample's settings, smoothed. `ref_over_rate` is the reference over the rate for the gains,
 // `reference_ratio` the same for the delay lines. `chord` is the setup's.
-#[derive(Drop)]
+#[derive(Clone, Copy)]
 pub struct Settings {
     pub resonance: f32,
     pub inv_knee: f32,

@@ -1,4 +1,6 @@
 // Words of 32 bits in a list of bytes, low byte first.
+#![tactic(auto)]
+
 ghost use Rattle.std.specs.Prelude.{◌≡◌, ◌+◌, ◌*◌, ◌≤◌, length};
 ghost use Rattle.parts.specs.Parts.{patch};
 ghost use Rattle.file_words.specs.Words.{word_at, word_bytes};

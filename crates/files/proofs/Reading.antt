@@ -13,7 +13,7 @@ use Rattle.places.specs.Heads.{head_at}
 use Rattle.places.specs.ByHead.{with_number}
 use Rattle.rows.specs.Rows.{numbers_in}
 use Rattle.rows.specs.Asks.{restored_rows, Lent}
-use Rattle.rows.specs.Back.{rows_same, numbers_are}
+use Rattle.rows.proofs.Back.{rows_same, numbers_are}
 use Rattle.files.specs.Asks.{Ready}
 
 module _ (v s L p : ℕ) (file pos : List ℕ) (t r d : ℕ) (ready : Ready v s L p file pos t r d) where

@@ -1,6 +1,6 @@
 -- For the proofs: nothing here must be believed.
 -- The file by kinds, voices or slots, and parts is the file block by block. Assumes nothing.
-use Rattle.std.specs.Prelude.{◌≡◌, ℕ, ◌+◌, ◌-◌, ◌*◌, ◌/◌, ◌%◌, ◌<◌, List, ◌++◌, Float}
+use Rattle.std.specs.Prelude.{◌≡◌, ℕ, ◌+◌, ◌*◌, ◌/◌, ◌%◌, ◌<◌, List, ◌++◌, Float}
 use Rattle.std.proofs.Common.{sym, ap, ◌∙◌, arith}
 use Rattle.parts.specs.Parts.{flat, piece}
 use Rattle.parts.specs.Flat.{flat_same, flat_add, flat_flat}

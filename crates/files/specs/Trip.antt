@@ -23,7 +23,8 @@ use Rattle.places.specs.Order.{placed_in_order}
 use Rattle.places.specs.ByHead.{target_heads, record_heads, ring_head_lem, head_once, with_number}
 use Rattle.rows.specs.Rows.{row_words, numbers_in}
 use Rattle.rows.specs.Asks.{part_words}
-use Rattle.rows.specs.Back.{F32s, Blank, all_carried, numbers_are, rows_back}
+use Rattle.rows.specs.Asks.{F32s, Blank}
+use Rattle.rows.proofs.Back.{all_carried, numbers_are, rows_back}
 use Rattle.files.specs.File.{parked_targets, parked_record}
 use Rattle.files.specs.Image.{Image, either, content_of, block_at, blocks_of, image_file, Whole}
 

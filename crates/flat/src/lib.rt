@@ -1,1 +1,3 @@
 // The DJ sweep is flat near its middle: laws only.
+
+#![tactic(auto)]

@@ -1,6 +1,6 @@
 -- Laws of the line read: nine digits spell a number below 10 ^ 9, a line ends within its text, and each test of the code is one of
 -- `line_request`. Assumes nothing.
-use Rattle.std.proofs.Common.{◌≡◌, ℕ, zero, suc, ◌+◌, ◌-◌, ◌*◌, ◌^◌, ◌<◌, ◌≤◌, Bool, true, false, cond, ◌&&◌, ltb, leb, List, [], ◌∷◌, length, take, drop, sym, refl, ◌∙◌, le_of_suc-le-suc, mul-le-mul_right, pow-suc, arith, length-take, ltb-true, le-ltb, lt-ltb, eq-eqb, ne_eqb, le-leb}
+use Rattle.std.proofs.Common.{◌≡◌, ℕ, zero, suc, ◌+◌, ◌-◌, ◌*◌, ◌^◌, ◌<◌, ◌≤◌, Bool, true, false, cond, ◌&&◌, ltb, leb, List, ◌∷◌, length, take, drop, sym, refl, ◌∙◌, le_of_suc-le-suc, mul-le-mul_right, pow-suc, arith, length-take, ltb-true, le-ltb, lt-ltb, eq-eqb, ne_eqb, le-leb, []}
 use native.Mathlib.Nat.{one-le-pow}
 use borrow.Author.Tests.{lt-leb}
 use Rattle.text.specs.declared.Span.{Span}

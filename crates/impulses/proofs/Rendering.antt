@@ -1,6 +1,6 @@
 -- Laws of the rendering: an accepted open and block leave the audio that the definitions give, and parts of the program's lists are the lists
 -- that it feeds. Assumes nothing.
-use Rattle.std.proofs.Common.{◌≡◌, ℕ, zero, suc, ◌+◌, ◌-◌, ◌*◌, ◌<◌, ◌≤◌, false, List, [], ◌∷◌, ◌++◌, length, take, set, replicate, pos, sym, refl, ap, ◌∙◌, subst, le_of_suc-le-suc, arith, length-append, length-take, take_all, eq-eqb, le-leb}
+use Rattle.std.proofs.Common.{◌≡◌, ℕ, zero, suc, ◌+◌, ◌-◌, ◌*◌, ◌<◌, ◌≤◌, false, List, ◌∷◌, ◌++◌, length, take, set, replicate, pos, sym, refl, ap, ◌∙◌, subst, le_of_suc-le-suc, arith, length-append, length-take, take_all, eq-eqb, le-leb, []}
 use lib.ListN.{length-replicate}
 use lib.Seq.{take-append-le}
 use lib.Ieee.{Float, binary32, of_bits, of_int, round}

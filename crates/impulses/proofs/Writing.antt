@@ -1,5 +1,5 @@
 -- Laws of the text printed: bytes that follow each other, and one turn of the samples' loop. Assumes nothing.
-use Rattle.std.proofs.Common.{◌≡◌, ℕ, ◌+◌, ◌<◌, ◌≤◌, Bool, true, false, ltb, List, [], ◌∷◌, ◌++◌, length, get_or, drop, set, sym, refl, ap, ◌∙◌, add-one, arith, length-set, drop_of_length-le, drop-cons, ltb-true}
+use Rattle.std.proofs.Common.{◌≡◌, ℕ, ◌+◌, ◌<◌, ◌≤◌, Bool, true, false, ltb, List, ◌∷◌, ◌++◌, length, get_or, drop, set, sym, refl, ap, ◌∙◌, add-one, arith, length-set, drop_of_length-le, drop-cons, ltb-true, []}
 use lib.Ieee.{Float, nan}
 use Rattle.text.specs.Text.{Buffer, buffer, room, put, puts, bits_of, decimal_text, hex_text}
 use Rattle.impulses.specs.Impulse.{sample_text, samples_text, refused_text}

@@ -1,4 +1,6 @@
 // Impulse on slices (document 01, 'Checked figures'): the line that it reads, its verdict, the voice's response and the text that it prints.
+#![tactic(auto)]
+
 ghost use Rattle.std.specs.Prelude.{◌≡◌, ◌-◌, length};
 ghost use Rattle.text.specs.Text.{buffer, puts};
 ghost use Rattle.voices.specs.Calls.{targets_width, record_width, most_frames};
@@ -15,21 +17,21 @@ use text::{Number, Span};
 use voices::{RECORD_WIDTH, TARGETS_WIDTH};
 
 // What reading a decimal of 1 to 9 digits answers.
-#[derive(Drop)]
+#[derive(Clone, Copy)]
 pub enum Decimal {
     Value(u32),
     Malformed,
 }
 
 // What an input asks for: a code, a rate and frames, or it is no such line.
-#[derive(Drop)]
+#[derive(Clone, Copy)]
 pub enum Request {
     Line,
     Asked(u32, u32, usize),
 }
 
 // What comes of a request before a frame is rendered.
-#[derive(Drop)]
+#[derive(Clone, Copy)]
 pub enum Verdict {
     Fine,
     Large,

@@ -14,7 +14,7 @@ use Rattle.extended.specs.declared.Settings.{Settings}
 use Rattle.teeth.specs.Teeth.{teeth_of}
 use Rattle.teeth.specs.Laws.{taps_same}
 use Rattle.pole_zero.specs.declared.Table.{Table}
-use Rattle.poles.specs.Heard.{others, step_heard, over_heard}
+use Rattle.poles.proofs.Heard.{others, step_heard, over_heard}
 use Rattle.sweeps.specs.Sweeps.{buzz_coefficients, buzz_with, dj_coefficients, dj_with, dj_over, diffuser_coefficients, diffuser_with}
 use Rattle.ladders.specs.Ladders.{transistor_coefficients, transistor_with, driven_coefficients, driven_with}
 use Rattle.ladders.specs.Ladders.{acid_coefficients, acid_with, clean_ladder_coefficients, clean_ladder_with}

@@ -5,7 +5,6 @@ use Rattle.std.specs.Prelude.{◌≡◌, ℕ, ◌+◌, ◌*◌, ◌≤◌, min, 
 use Rattle.std.proofs.Math.Path.{refl}
 use Rattle.std.proofs.Common.{zero-le, mul-le-mul_left, arith}
 use Rattle.std.proofs.Math.ListN.{length, length-set}
-use Rattle.std.proofs.Math.Seq.{length-sets}
 use Rattle.parts.specs.Parts.{upto}
 use Rattle.parts.specs.Laws.{upto_keep, upto_count}
 use Rattle.lane.specs.Floats.{◌⊕◌, zero}

@@ -1,7 +1,7 @@
 -- For the proofs: nothing here must be believed.
 -- What a kernel has of the pitch and the character alone, kept from frame to frame: a list of ten numbers, of which the last two
 -- are the pitch and the character that the first eight follow from. PoleZero has a list of its own, of the pitch, x, y and z, and the chord
--- comb a plan of its teeth, of the ratio (teeth/specs/Contracts.antt). With them is kept how often a tick at those numbers judges a ratio greater than its cap.
+-- comb a plan of its teeth, of the ratio (teeth/specs/Promises.antt). With them is kept how often a tick at those numbers judges a ratio greater than its cap.
 -- Definitions only. Assumes nothing.
 use Rattle.std.specs.Prelude.{ℕ, ◌+◌, Bool, cond, List, ◌∷◌, [], eqb, Float}
 use Rattle.lane.specs.Floats.{◌‼◌, zero}

@@ -1,4 +1,6 @@
 // The structure's kernel, chosen by its code, and what a kernel keeps from frame to frame.
+#![tactic(auto)]
+
 ghost use Rattle.std.specs.Prelude.{◌≡◌};
 ghost use Rattle.lines.specs.Ring.{StandsIn};
 ghost use Rattle.kernels.specs.Tuning.{rows_from, expander_from, weights_from};

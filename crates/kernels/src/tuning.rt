@@ -24,7 +24,7 @@ use stages::Five;
 use sweeps::DjSweep;
 
 // A structure's numbers; a place that it has no use for is 0.
-#[derive(Drop)]
+#[derive(Clone, Copy)]
 pub struct Numbers(
     pub f32,
     pub f32,
@@ -104,7 +104,7 @@ fn gain_numbers(code: u32, g: f32, p: Settings) -> Numbers
 }
 
 // A structure's numbers, and how often a tick at them judges a ratio greater than its cap.
-#[derive(Drop)]
+#[derive(Clone, Copy)]
 pub struct JudgedNumbers {
     pub numbers: Numbers,
     pub over: u32,
@@ -197,7 +197,7 @@ fn is_tuned(tuning: &[f32; 10], pitch: f32, character: f32) -> bool
 }
 
 // The kept numbers of a pitch and a character.
-#[derive(Drop)]
+#[derive(Clone, Copy)]
 pub struct Tuning {
     pub numbers: [f32; 10],
     pub over: u32,

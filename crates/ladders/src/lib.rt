@@ -1,5 +1,7 @@
 // The transistor and diode ladders. Each has what follows from the pitch and the settings alone, in a struct of its name, and the
 // step over the input and the states.
+#![tactic(auto)]
+
 ghost use Rattle.std.specs.Prelude.{◌≡◌, List, Float};
 ghost use Rattle.filter.specs.declared.Pitch.{Pitch};
 ghost use Rattle.filter.specs.Filter.{gain_of};
@@ -22,7 +24,7 @@ const LADDER_COMPENSATION: f32 = 0.5;
 
 // The transistor ladders: four one-pole stages with feedback from the last, each stage's gain falling as its state grows, solved in
 // closed form.
-#[derive(Drop)]
+#[derive(Clone, Copy)]
 pub struct TransistorLadder {
     pub g: f32,
     pub base: f32,
@@ -98,7 +100,7 @@ pub fn transistor_step(c: TransistorLadder, state: &mut [f32; 20], x: f32) -> f3
 
 // The driven ladder: a soft clipper before the transistor ladder, whose gain character raises, scaled so full scale comes out at full
 // scale, and a lower resonance knee.
-#[derive(Drop)]
+#[derive(Clone, Copy)]
 pub struct DrivenLadder {
     pub ladder: TransistorLadder,
     pub drive: f32,
@@ -143,7 +145,7 @@ pub fn driven_step(c: DrivenLadder, state: &mut [f32; 20], x: f32) -> f32
 }
 
 // What a diode ladder's elimination has of the pitch alone, row by row.
-#[derive(Drop)]
+#[derive(Clone, Copy)]
 pub struct Rows {
     pub g: f32,
     pub e: f32,
@@ -156,7 +158,7 @@ pub struct Rows {
 
 // The diode ladders: four coupled stages, each passing part of its neighbour's current back, with feedback from the last, solved in
 // closed form by elimination.
-#[derive(Drop)]
+#[derive(Clone, Copy)]
 pub struct DiodeLadder {
     pub rows: Rows,
     pub base: f32,

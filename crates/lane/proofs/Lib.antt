@@ -1,1 +1,3 @@
 pub mod Zeros
+pub mod Compared
+pub mod Order

@@ -30,9 +30,11 @@ same_sign s m e n d p q g h =
 
 not_or_l : (a b : Bool) → T (not (a || b)) → T (not a)
 not_or_l false b h = tt
+not_or_l true b h = elim h [ ]
 
 not_or_r : (a b : Bool) → T (not (a || b)) → T (not b)
 not_or_r false b h = h
+not_or_r true b h = elim h [ ]
 
 -- a negative number or -0 beside a positive one or +0
 never : (m : ℕ) (e : ℤ) (n : ℕ) (d : ℤ) → T (not (ltb 0 (m * up e * down d + n * up d * down e) || (eqb m 0 && eqb n 0))) → ⊥
@@ -60,6 +62,10 @@ apart (fin false m e) (fin true n d) p q u v g h = absurd (never n d m e h)
 apart (fin false m e) (fin false n d) p q u v g h =
     same_sign false m e n d p q (not_or_l (ltb (m * up e * down d) (n * up d * down e)) false g)
     (not_or_l (ltb (n * up d * down e) (m * up e * down d)) false h)
+apart nan b p q u v g h = elim u [ ]
+apart (inf false) nan p q u v g h = elim v [ ]
+apart (inf true) nan p q u v g h = elim v [ ]
+apart (fin s m e) nan p q u v g h = elim v [ ]
 
 -- ---- and not both ways
 one_way : (a b : ℕ) → T (ltb a b) → T (ltb b a) → ⊥
@@ -110,11 +116,11 @@ minus_number nan h = absurd h
 minus_number (inf s) h = refl
 minus_number (fin s m e) h = refl
 
-pub is_nan : (x : Float) → T (is_nan x) → x ≡ nan
+pub is_nan_lem : (x : Float) → T (is_nan x) → x ≡ nan
 unfolding is_nan
-is_nan nan h = refl
-is_nan (inf s) h = absurd h
-is_nan (fin s m e) h = absurd h
+is_nan_lem nan h = refl
+is_nan_lem (inf s) h = absurd h
+is_nan_lem (fin s m e) h = absurd h
 
 -- ---- the choice between a and b. p and q say whether a is NaN, and b; l is a comparison by <, z whether C-14's zeros stand there
 pub moved : {X : Type 0} (p q l z : Bool) (a b : X) → (T z → q ≡ false)

@@ -2,4 +2,3 @@ pub mod Floats
 pub mod Lane
 pub mod Below
 pub mod Order
-pub mod Compared

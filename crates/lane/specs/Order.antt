@@ -1,12 +1,11 @@
 -- The zeros in order (document 02, C-14): what max and min answer of two zeros and of a NaN, that it is all one which comes first, and
--- which of document 01's answers moved. Assumes nothing.
+-- which of document 01's answers moved; that no other did is `as_in_01` (proofs/Order.antt). Assumes nothing.
 use Rattle.std.specs.Prelude.{◌≡◌, refl, Bool, true, false, cond, ◌&&◌, ◌||◌, pos, T, Float}
-use Rattle.std.proofs.Common.{ap, ◌∙◌, true≢false}
 use Rattle.std.specs.Float.{nan, inf, fin, binary32}
 use Rattle.std.specs.Float.Ieee.{lt, is_nan, fits}
 use Rattle.std.specs.Float.Ieee.Fits.{and_l, and_r}
 use Rattle.lane.specs.Lane.{is_plus_zero, is_minus_zero, is_below, max_of, min_of}
-use Rattle.lane.specs.Below.{apart, not_both, plus_number, minus_number, is_nan, moved, swapped}
+use Rattle.lane.specs.Below.{apart, not_both, plus_number, minus_number, is_nan_lem, moved, swapped}
 
 -- -0 for true, +0 for false
 abbrev pub zero_of : (negative : Bool) → Float
@@ -64,24 +63,12 @@ min_moved a b =
 unfoldable pub unlike_zeros : Float → Float → Bool
 unlike_zeros a b = (is_minus_zero a && is_plus_zero b) || (is_minus_zero b && is_plus_zero a)
 
-neither : (p q : Bool) → p || q ≡ false → (p ≡ false) × (q ≡ false)
-neither true q h = absurd (true≢false h)
-neither false q h = (refl, h)
-
-pub as_in_01 : (a b : Float) → unlike_zeros a b ≡ false → (max_of a b ≡ max_in01 a b) × (min_of a b ≡ min_in01 a b)
-unfolding unlike_zeros
-as_in_01 a b h =
-    let n = neither (is_minus_zero a && is_plus_zero b) (is_minus_zero b && is_plus_zero a) h in (
-      max_moved a b ∙ ap (λ (z : Bool). cond z b (max_in01 a b)) n.0,
-      min_moved a b ∙ ap (λ (z : Bool). cond z b (min_in01 a b)) n.1,
-    )
-
 -- ---- whichever comes first
 pub max_either : (a b : Float) → T (fits binary32 a) → T (fits binary32 b) → max_of a b ≡ max_of b a
 unfolding max_of
-max_either a b p q = swapped a b (is_nan a) (is_nan b) (is_below a b) (is_below b a) (apart a b p q) (not_both a b) (is_nan a) (is_nan b)
+max_either a b p q = swapped a b (is_nan a) (is_nan b) (is_below a b) (is_below b a) (apart a b p q) (not_both a b) (is_nan_lem a) (is_nan_lem b)
 
 pub min_either : (a b : Float) → T (fits binary32 a) → T (fits binary32 b) → min_of a b ≡ min_of b a
 unfolding min_of
 min_either a b p q =
-    swapped a b (is_nan a) (is_nan b) (is_below b a) (is_below a b) (λ u v g h. apart a b p q u v h g) (λ g h. not_both a b h g) (is_nan a) (is_nan b)
+    swapped a b (is_nan a) (is_nan b) (is_below b a) (is_below a b) (λ u v g h. apart a b p q u v h g) (λ g h. not_both a b h g) (is_nan_lem a) (is_nan_lem b)

@@ -1,4 +1,6 @@
 // The float leaves of lane.rs for the lane f32, and document 01's stand-ins for library functions.
+#![tactic(auto)]
+
 ghost use Rattle.std.specs.Prelude.{◌≡◌};
 ghost use Rattle.lane.specs.Floats.{fma};
 ghost use Rattle.lane.specs.Lane.{is_minus_zero, max_of, min_of, clamp_of, exp2_of, pow10_of, exp_of, tan_of, soft_clip, saturation_gain};

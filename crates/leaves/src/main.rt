@@ -1,29 +1,35 @@
 // Replays rows `name inputs = answer` on the proved functions: writes each row again with the answer computed, so that the
 // output is the input where every answer is right, bit for bit. A line that starts with `#` is copied; a row that cannot be
 // read gives `?`.
-ghost use Rattle.std.specs.Prelude.{◌≤◌};
+#![tactic(auto)]
+
+ghost use Rattle.std.specs.Prelude.{◌≡◌, ◌≤◌, length, take, IfOk, IfSome};
+ghost use Rattle.std.specs.Io.{ReadsAtMost};
+ghost use Rattle.std.specs.Io.KnownBytes.{Consumes};
 
 use extended::Chord;
 use filter::{Pitch, Ratio, VoiceParams};
 use points::{Point, PointKind, State};
 use pole_zero::{Answer, PoleZeroDesign, Table};
+use std::io;
+use std::io::{Read, Write};
 
 // A point that was read, and where the word after it starts; not ok where the words are no point.
-#[derive(Drop)]
+#[derive(Clone, Copy)]
 struct PointRead {
     point: Point,
     next: usize,
     ok: bool,
 }
 
-#[derive(Drop)]
+#[derive(Clone, Copy)]
 struct StateRead {
     state: State,
     next: usize,
     ok: bool,
 }
 
-#[derive(Drop)]
+#[derive(Clone, Copy)]
 struct DesignRead {
     design: PoleZeroDesign,
     next: usize,
@@ -484,30 +490,33 @@ fn line(s: &[u8], cells: &[f32], out: &mut [u8]) -> usize {
     text::put_byte(out, p, b'\n')
 }
 
-fn write(out: &[u8], n: usize) {
+// Writes the first n bytes; none where `out` has fewer.
+fn write<W: Write>(output: &mut W, out: &[u8], n: usize) -> io::Result<()> {
     if n <= out.len() {
-        io::write_all(1, &out[0..n]);
+        return output.write_all(&out[0..n]);
     }
+    Ok(())
 }
 
 // Every line of the input.
-fn replay(s: &[u8], cells: &[f32], out: &mut [u8]) {
+fn replay<W: Write>(output: &mut W, s: &[u8], cells: &[f32], out: &mut [u8]) -> io::Result<()> {
     let mut at = 0;
     while at < s.len() {
         let end = text::line_end(s, at);
         if end < at {
-            return;
+            return Ok(());
         }
         if end > s.len() {
-            return;
+            return Ok(());
         }
         let n = line(&s[at..end], cells, out);
-        write(out, n);
+        write(output, out, n)?;
         if end == s.len() {
-            return;
+            return Ok(());
         }
         at = end + 1;
     }
+    Ok(())
 }
 
 // Cell i holds 37 i mod 1009.
@@ -521,23 +530,57 @@ fn fill(cells: &mut [f32]) {
     }
 }
 
-// Reads the input and replays it.
-fn read_and_replay(input: &mut [u8], cells: &mut [f32], out: &mut [u8]) {
-    fill(cells);
-    let n = io::read_full(0, input);
-    if n <= input.len() {
-        replay(&input[0..n], cells, out);
+// Fills `buf` from its start with what the input has, and answers the number of bytes; what `buf` has no room for is not read.
+fn read_full<R: Read>(input: &mut R, buf: &mut [u8]) -> io::Result<usize>
+    ensures count { ReadsAtMost result buf.new }
+    ensures bytes { IfOk result (λ n. IfSome (R.remaining input.old)
+        (λ xs. take n buf.new ≡ take (length buf.new) xs)) }
+    ensures no_more { IfOk result (λ n. Consumes (R.remaining input.old) (R.remaining input.new) (take n buf.new)) }
+{
+    let mut n = 0;
+    while n < buf.len() {
+        let got = input.read(&mut buf[n..])?;
+        if got == 0 {
+            return Ok(n);
+        }
+        n += got;
     }
+    Ok(n)
+}
+
+// Reads the input and replays it.
+fn read_and_replay<R: Read, W: Write>(
+    reader: &mut R,
+    output: &mut W,
+    input: &mut [u8],
+    cells: &mut [f32],
+    out: &mut [u8],
+) -> io::Result<()> {
+    fill(cells);
+    let n = read_full(reader, input)?;
+    replay(output, &input[0..n], cells, out)
 }
 
 // The same with the arrays by their types: the lengths of local arrays of this size take the prover long.
-fn replay_input(input: &mut [u8; 524288], cells: &mut [f32; 131072], out: &mut [u8; 8192]) {
-    read_and_replay(input, cells, out);
+fn replay_input<R: Read, W: Write>(
+    reader: &mut R,
+    output: &mut W,
+    input: &mut [u8; 524288],
+    cells: &mut [f32; 131072],
+    out: &mut [u8; 8192],
+) -> io::Result<()> {
+    read_and_replay(reader, output, input, cells, out)
 }
 
-fn main() {
+fn main(rt: HostRuntime) -> io::Result<()> {
     let mut input = [0u8; 524288];
     let mut cells = [0f32; 131072];
     let mut out = [0u8; 8192];
-    replay_input(&mut input, &mut cells, &mut out);
+    replay_input(
+        &mut rt.stdin(),
+        &mut rt.stdout(),
+        &mut input,
+        &mut cells,
+        &mut out,
+    )
 }

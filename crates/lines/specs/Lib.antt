@@ -3,6 +3,4 @@ pub mod Ring
 pub mod Order
 pub mod Whole
 pub mod Length
-pub mod Delay
 pub mod View
-pub mod Laws

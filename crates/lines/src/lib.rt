@@ -1,12 +1,14 @@
 // Delay lines (lines.rs): one ring per slot of the lent delay list, read at a fractional delay with four-point cubic
 // Hermite interpolation. On plain parameters; the list holds `len` cells a slot.
+#![tactic(auto)]
+
 ghost use Rattle.std.specs.Prelude.{◌≡◌, ◌+◌, ◌*◌, ◌<◌, ◌≤◌, length, slice_index_or};
 ghost use Rattle.std.specs.Float.{nan};
 ghost use Rattle.parts.specs.Parts.{piece};
 ghost use Rattle.lines.specs.Lines.{whole_part, rate_refused, next_power, ring_len, hermite_of, held, cell_of, taps_of, is_view, read_of, write_of};
 
 // Where a slot's ring stands in the lent delay list: its length, the cursor and the slot.
-#[derive(Drop)]
+#[derive(Clone, Copy)]
 pub struct Ring {
     pub len: usize,
     pub cursor: usize,

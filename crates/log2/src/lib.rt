@@ -1,4 +1,6 @@
 // log2 of an f32 in twenty rounds (document 01, Floats): the exponent, and twenty binary digits of the significand's logarithm, each by a square.
+#![tactic(auto)]
+
 ghost use Rattle.std.specs.Prelude.{◌≡◌, ◌*◌, ◌<◌, ◌≤◌};
 ghost use Rattle.log2.specs.Log2.{rounds, log_of};
 ghost use Rattle.log2.specs.Inner.{offset};

@@ -4,7 +4,7 @@ use Rattle.std.specs.Prelude.{◌≡◌, ◌≢◌, ℕ, zero, suc, ◌+◌, ◌
 use Rattle.std.proofs.Common.{sym, ap, ◌∙◌, arith}
 use Rattle.parts.specs.Parts.{upto}
 use Rattle.voices.specs.Calls.{BlockRun}
-use Rattle.abreast.specs.Abreast.{both_channels}
+use Rattle.abreast.proofs.Abreast.{both_channels}
 use Rattle.slots.specs.declared.Prepared.{Prepared}
 use Rattle.slots.specs.declared.Slot.{Slot}
 use Rattle.slots.specs.Slots.{solo_at, engine_at, block_at, block_run, channel_in, Worked, Placed, Buffers, Lists, Swept}

@@ -14,7 +14,8 @@ use Rattle.run.specs.declared.Structure.{Structure}
 use Rattle.run.specs.Run.{PEAK}
 use Rattle.run.specs.Promises.{Keeps, Widths, Glided, record_of, held_record}
 use Rattle.voices.specs.Calls.{smoothed_width, targets_width, states_width, record_width, Engine, BlockRun, slot_of}
-use Rattle.abreast.specs.Abreast.{Two, Lane, store_first, load_two, store_two, slot_alone, slots_abreast}
+use Rattle.abreast.specs.Abreast.{Two, Lane, store_first, load_two, store_two}
+use Rattle.abreast.proofs.Abreast.{slot_alone, slots_abreast}
 use Rattle.slots.specs.declared.Prepared.{Prepared}
 use Rattle.slots.specs.declared.Slot.{Slot}
 use Rattle.slots.specs.Slots.{solo_at, engine_at, block_at, block_run, slot_in, Worked, Placed, Buffers, Lists}

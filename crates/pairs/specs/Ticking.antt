@@ -12,7 +12,8 @@ use Rattle.run.specs.Run.{smooth_of}
 use Rattle.run.specs.declared.Structure.{Structure}
 use Rattle.run.specs.Promises.{Keeps, Widths, Glided, held_record}
 use Rattle.voices.specs.Calls.{targets_width, states_width, SlotRun}
-use Rattle.abreast.specs.Abreast.{Two, run_first, run_second, put_first, put_second, Lane, first_more, first_alone, second_more}
+use Rattle.abreast.specs.Abreast.{Two, run_first, run_second, put_first, put_second, Lane}
+use Rattle.abreast.proofs.Abreast.{first_more, first_alone, second_more}
 use Rattle.slots.specs.declared.Prepared.{Prepared}
 use Rattle.slots.specs.Slots.{solo_at, engine_at, block_at, slot_run}
 use Rattle.slots.specs.Laws.{engine_laws}

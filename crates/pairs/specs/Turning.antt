@@ -9,7 +9,8 @@ use Rattle.lane.specs.Floats.{◌‼◌}
 use Rattle.extended.specs.Extended.{lines_mark}
 use Rattle.run.specs.Promises.{held_record}
 use Rattle.voices.specs.Calls.{SlotRun}
-use Rattle.abreast.specs.Abreast.{Two, run_first, run_second, put_first, put_second, Good, Lane, first_more, first_alone, second_more}
+use Rattle.abreast.specs.Abreast.{Two, run_first, run_second, put_first, put_second, Good, Lane}
+use Rattle.abreast.proofs.Abreast.{first_more, first_alone, second_more}
 use Rattle.slots.specs.declared.Prepared.{Prepared}
 use Rattle.slots.specs.declared.Slot.{Slot}
 use Rattle.slots.specs.Slots.{solo_at, engine_at, block_at, rest_run, Worked, Rested, Rests, Settled}

@@ -1,5 +1,7 @@
 // A block through every slot: one slot or two in one frame loop, since a slot's frame waits for its own last one and another slot's need not; and
 // the frames of a slot at rest stored without a tick.
+#![tactic(auto)]
+
 ghost use Rattle.std.specs.Prelude.{◌≡◌, ◌≢◌, true, List, [], ◌∷◌, ℕ, ◌+◌, ◌*◌, ◌<◌, ◌≤◌, Float, length, get_or};
 ghost use Rattle.parts.specs.Parts.{upto, piece};
 ghost use Rattle.lane.specs.Floats.{◌‼◌};
@@ -241,7 +243,7 @@ fn run_span(
 }
 
 // The slots and frames of a turn.
-#[derive(Drop)]
+#[derive(Clone, Copy)]
 pub struct Span {
     pub lo: usize,
     pub hi: usize,

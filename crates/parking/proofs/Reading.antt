@@ -1,11 +1,11 @@
 -- What each test of the reader says of the verdict, up to the setup's. Assumes nothing.
 use mathlib.Core.Path.{◌≡◌, refl, sym, ap, ◌∙◌}
-use mathlib.Core.Bool.{Bool, true, false, not, ◌&&◌}
+use mathlib.Core.Bool.{Bool, true, false, ◌&&◌}
 use Prim.Native.Nat.{ℕ, ◌%◌, ◌≤◌, ◌<◌}
 use mathlib.Core.List.{List, []}
 use lib.Dec.{leb, eqb}
 use lib.ListN.{length}
-use borrow.Author.Tests.{lt-leb, le-leb, not-true, not-false}
+use borrow.Author.Tests.{lt-leb, le-leb}
 use Rattle.voices.specs.Calls.{Check, fine, refused, check, ◌then◌}
 use Rattle.blocks.specs.Blocks.{head_of}
 use Rattle.places.specs.Places.{count, place_of, blocks_in, head_in, sound_file, is_once}
@@ -58,14 +58,14 @@ setup_says file w s v e h d u = clean file w e h ∙ sym (setup_checked file s d
 
 -- ---- 12, and 13 of the setup's blocks
 
-pub damaged : (file : List ℕ) (r : Bool) → r ≡ eqb (length file % 512) 0 && sound_file file → not r ≡ true → head_verdict file ≡ refused 12
+pub damaged : (file : List ℕ) (r : Bool) → r ≡ eqb (length file % 512) 0 && sound_file file → r ≡ false → head_verdict file ≡ refused 12
 unfolding head_verdict check ◌then◌
-damaged file r e h = ap (λ (t : Bool). check t 12 then head_check file then solo_check file) (sym e ∙ not-true r h)
+damaged file r e h = ap (λ (t : Bool). check t 12 then head_check file then solo_check file) (sym e ∙ h)
 
-sound : (file : List ℕ) (r : Bool) → r ≡ eqb (length file % 512) 0 && sound_file file → not r ≡ false
+sound : (file : List ℕ) (r : Bool) → r ≡ eqb (length file % 512) 0 && sound_file file → r ≡ true
     → head_verdict file ≡ head_check file then solo_check file
 unfolding head_verdict check ◌then◌
-sound file r e h = ap (λ (t : Bool). check t 12 then head_check file then solo_check file) (sym e ∙ not-false r h)
+sound file r e h = ap (λ (t : Bool). check t 12 then head_check file then solo_check file) (sym e ∙ h)
 
 -- `sole` answers At just where a head stands once
 pub not_once : (file : List ℕ) (head : ℕ) (r : Place) → r ≡ sole_of file head → r ≡ Not → is_once file head ≡ false
@@ -92,7 +92,7 @@ pub second_head : head_of 1 0 1 ≡ 65537
 unfolding head_of
 second_head = refl
 
-module _ (file : List ℕ) (r : Bool) (e : r ≡ eqb (length file % 512) 0 && sound_file file) (h : not r ≡ false) where
+module _ (file : List ℕ) (r : Bool) (e : r ≡ eqb (length file % 512) 0 && sound_file file) (h : r ≡ true) where
   pub first_missing : (p : Place) → p ≡ sole_of file 1 → p ≡ Not → head_verdict file ≡ refused 13
   unfolding check ◌then◌
   first_missing p d n =

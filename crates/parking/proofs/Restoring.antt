@@ -14,10 +14,10 @@ use Rattle.blocks.specs.Blocks.{parts_of, total}
 use Rattle.places.specs.Places.{place_of, blocks_in, number_at, is_whole}
 use Rattle.rows.specs.Rows.{numbers_in}
 use Rattle.files.specs.File.{parked_targets, parked_record}
-use Rattle.rows.specs.Back.{parts_hold}
+use Rattle.rows.proofs.Back.{parts_hold}
 use Rattle.files.specs.Asks.{Ready, Restored}
 use Rattle.setups.specs.Setup.{setup_check_of}
-use Rattle.setups.specs.Accepted.{SetupAccepted, setup_accepted, file_accepted}
+use Rattle.setups.proofs.Accepted.{SetupAccepted, setup_accepted, file_accepted}
 use Rattle.setups.specs.Parked.{solo_in, voices_in, slots_in, ring_in, cursor_in, bank_in, damaged_check, head_check, solo_check, blocks_check, file_verdict, restore_verdict}
 use Rattle.checks.specs.declared.Setup.{Setup}
 use Rattle.checks.specs.declared.Verdict.TheVariants.{Fine, Refused}

@@ -1,11 +1,10 @@
 -- From the checks up to 5 to the whole verdict of a file, and what the survey says of it. Assumes nothing.
 use mathlib.Core.Path.{◌≡◌, refl, sym, ap, ◌∙◌, subst}
-use mathlib.Core.Bool.{Bool, true, false, not}
+use mathlib.Core.Bool.{Bool, true, false}
 use Prim.Native.Nat.{ℕ, suc, ◌+◌, ◌*◌, ◌/◌, ◌≤◌, ◌<◌}
 use native.Mathlib.Omega.{arith}
 use mathlib.Core.List.{List, []}
 use lib.ListN.{length, get_or}
-use borrow.Author.Tests.{not-true, not-false}
 use Rattle.lines.specs.Lines.{ring_len}
 use Rattle.voices.specs.Calls.{Check, fine, refused, check, ◌then◌}
 use Rattle.voices.specs.Accepted.{then_fine}
@@ -13,7 +12,7 @@ use Rattle.blocks.specs.Blocks.{parts_of, total}
 use Rattle.places.specs.Places.{place_of, blocks_in, number_at, is_whole}
 use Rattle.places.specs.Survey.{Small, Surveyed}
 use Rattle.setups.specs.Setup.{codes_check_of}
-use Rattle.setups.specs.Accepted.{SetupAccepted, codes_accepted}
+use Rattle.setups.proofs.Accepted.{SetupAccepted, codes_accepted}
 use Rattle.setups.specs.Parked.{voices_in, slots_in, ring_in, damaged_check, head_check, parked_codes, solo_check, blocks_check, file_verdict}
 use Rattle.checks.specs.declared.Setup.{Setup}
 use Rattle.checks.specs.declared.Verdict.TheVariants.{Fine, Refused}
@@ -117,17 +116,17 @@ module _ (file : List ℕ) (h : Held) (e : h ≡ held_by (head_verdict file) fil
         file_is : file_verdict file ≡ check r 13
         file_is = file_then file ∙ ap (λ (x : Check). x then blocks_check file) head_fine ∙ (unfold ◌then◌ in ap (λ (t : Bool). check t 13) (sym whole_is))
 
-        pub read_missing : (a : Held) → a ≡ held_by (refused 13) [] → not r ≡ true → FileRead file pos a
+        pub read_missing : (a : Held) → a ≡ held_by (refused 13) [] → r ≡ false → FileRead file pos a
         read_missing a u t =
-            let f : file_verdict file ≡ refused 13 = file_is ∙ ap (λ (x : Bool). check x 13) (not-true r t) ∙ (unfold check in refl) in
+            let f : file_verdict file ≡ refused 13 = file_is ∙ ap (λ (x : Bool). check x 13) t ∙ (unfold check in refl) in
             record {
               held = held_refused (file_verdict file) file 13 a u f;
               places = λ g. absurd (not_both 13 (sym g ∙ f));
             }
 
-        pub read_whole : not r ≡ false → FileRead file pos h
+        pub read_whole : r ≡ true → FileRead file pos h
         read_whole t =
-            let w : r ≡ true = not-false r t in
+            let w : r ≡ true = t in
             let f : file_verdict file ≡ fine = file_is ∙ ap (λ (x : Bool). check x 13) w ∙ (unfold check in refl) in
             record {
               held = e ∙ ap (λ (x : Check). held_by x file) (head_fine ∙ sym f);

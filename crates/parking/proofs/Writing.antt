@@ -14,10 +14,11 @@ use Rattle.blocks.specs.Blocks.{parts_of}
 use Rattle.files.specs.Image.{Image, image_file}
 use Rattle.files.specs.Asks.{image_of, Room}
 use Rattle.setups.specs.Setup.{setup_check_of}
-use Rattle.setups.specs.Accepted.{SetupAccepted, setup_accepted}
+use Rattle.setups.proofs.Accepted.{SetupAccepted, setup_accepted}
 use Rattle.setups.specs.Parked.{setup_words, parked_file}
 use Rattle.setups.specs.Parked.{Holds}
-use Rattle.setups.specs.Back.{F32Setup, F32Bank, image_whole, parked_is, parked_holds}
+use Rattle.setups.specs.Back.{F32Setup, F32Bank}
+use Rattle.setups.proofs.Back.{image_whole, parked_is, parked_holds}
 use Rattle.checks.specs.declared.Setup.{Setup}
 use Rattle.checks.specs.Setup.{solo_of, engine}
 use Rattle.parking.specs.Parking.{park_verdict, written_by}

@@ -9,7 +9,7 @@ use Rattle.places.specs.ByHead.{Shuffled}
 use Rattle.setups.specs.Setup.{heard_table, heard_chord, heard}
 use Rattle.setups.specs.Parked.{solo_in, voices_in, cursor_in, bank_in, restore_verdict}
 use Rattle.setups.specs.Parked.{Holds}
-use Rattle.setups.specs.AnyOrder.{any_order}
+use Rattle.setups.proofs.AnyOrder.{any_order}
 use Rattle.slots.specs.Heard.{heard_engine}
 use Rattle.checks.specs.declared.Setup.{Setup}
 use Rattle.checks.specs.declared.Verdict.{Verdict}

@@ -1,10 +1,12 @@
 // A bank parked in a file of 512-byte blocks, and restored from one (document 02, C-12).
+#![tactic(auto)]
+
 ghost use Rattle.std.specs.Prelude.{◌≡◌, ◌&&◌, [], ◌%◌, ◌≤◌, T, eqb, length};
 ghost use Rattle.std.specs.Float.{binary32};
 ghost use Rattle.std.specs.Float.Ieee.{fits};
 ghost use Rattle.text.specs.Text.{bits_of};
 ghost use Rattle.voices.specs.Calls.{refused};
-ghost use Rattle.rows.specs.Back.{F32s};
+ghost use Rattle.rows.specs.Asks.{F32s};
 ghost use Rattle.setups.specs.Back.{F32Setup};
 ghost use Rattle.places.specs.Places.{sound_file};
 ghost use Rattle.setups.specs.Parked.{clean_word, setup_words, no_chord, setup_word, cursor_in, file_verdict};
@@ -224,7 +226,7 @@ fn read_setup(file: &[u8], a: usize, b: usize) -> Setup
 }
 
 // What the checks of a file come to, and the setup and the cursor that it holds; of a refused file all zero.
-#[derive(Drop)]
+#[derive(Clone, Copy)]
 pub struct Held {
     pub verdict: Verdict,
     pub setup: Setup,

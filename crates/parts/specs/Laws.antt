@@ -3,7 +3,7 @@
 -- over the loop's turns, or by cutting the list at the piece's ends. Assumes nothing.
 use Rattle.std.specs.Prelude.{◌≡◌, refl, ◌≢◌, get_or}
 use Rattle.std.proofs.Math.Path.{sym, ap}
-use Rattle.std.proofs.Common.{◌∙◌, subst, le_refl, not-suc-le-zero, mod-eq_of_lt, zero-add, suc-add, length-set, drop_of_length-le, drop-drop, take_all}
+use Rattle.std.proofs.Common.{◌∙◌, subst, le_refl, not-suc-le-zero, mod-eq_of_lt, zero-add, suc-add, drop_of_length-le, drop-drop, take_all}
 use Prim.Native.Nat.{ℕ, zero, suc, ◌+◌, ◌-◌, ◌*◌, ◌%◌, ◌≤◌, ◌<◌}
 use Rattle.std.proofs.Math.Nat.{le_step, mul-add-mod_self_right, mul-le-mul_right}
 use Rattle.std.proofs.Math.Decide.{dec_le, ℕ_discrete}
@@ -169,10 +169,6 @@ module _ {ℓ} {A : Type ℓ} where
       set-append_left (take (s * m) xs ++ ys) (drop (s * m + m) xs) (s * m + i) a (simp length-append (omega arith))
       ∙ ap (λ (r : List A). r ++ drop (s * m + m) xs)
       (ap (λ (k : ℕ). set (take (s * m) xs ++ ys) (k + i) a) (sym e) ∙ set_append_add (take (s * m) xs) ys i a)
-
-  pub set_piece : (m s i : ℕ) (xs : List A) (a : A) → s * m + m ≤ length xs → i < m → set xs (s * m + i) a ≡ patch m s (set (piece m s xs) i a) xs
-  set_piece m s i xs a h b =
-      ap (λ (r : List A). set r (s * m + i) a) (sym (patch_piece m s xs)) ∙ patch_set m s i (piece m s xs) xs a h (length_piece m s xs h) b
 
   pub patch_paste : (m s : ℕ) (ys xs : List A) → length ys ≡ m → paste xs (s * m) ys m ≡ patch m s ys xs
   unfolding patch

@@ -15,7 +15,7 @@ use Rattle.bits.specs.Values.{zero_form}
 use Rattle.lane.specs.Floats.{zero, one}
 use Rattle.lane.specs.Lane.{is_plus_zero, is_minus_zero, is_below, max_of}
 use Rattle.lane.specs.Order.{max_in01, max_nan, max_moved}
-use Rattle.lane.specs.Compared.{max_compared}
+use Rattle.lane.proofs.Compared.{max_compared}
 use Rattle.peak.specs.Peak.{peak_of}
 use Rattle.peak.specs.Laws.{unsigned, abs_unsigned, max_inf}
 
@@ -51,6 +51,10 @@ larger a b n z = sym (max_moved a b ∙ ap (λ (k : Bool). cond (k && is_plus_ze
     nan_not nan b h = refl
     nan_not (inf s) nan h = refl
     nan_not (fin s m e) nan h = refl
+    nan_not (inf s) (inf _) h = elim h [ ]
+    nan_not (inf s) (fin _ _ _) h = elim h [ ]
+    nan_not (fin s m e) (inf _) h = elim h [ ]
+    nan_not (fin s m e) (fin _ _ _) h = elim h [ ]
 
     go : (p q l : Bool) → p ≡ false → (T q → l ≡ false) → cond p b (cond q a (cond l b a)) ≡ cond l b a
     go true q l e h = absurd (true≢false e)

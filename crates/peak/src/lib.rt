@@ -1,5 +1,7 @@
 // A slot's peak while a block runs. A number without sign rises by two comparisons a frame, with the sample and with its negative. Any other peak
 // goes at the first sample that is no NaN, so -1 runs in its place; where no such sample came the peak itself returns.
+#![tactic(auto)]
+
 ghost use Rattle.std.specs.Prelude.{◌≡◌, cond, Float};
 ghost use Rattle.std.specs.Float.Ieee.{lt};
 ghost use Rattle.peak.specs.Peak.{peak_of};

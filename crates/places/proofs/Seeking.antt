@@ -1,6 +1,6 @@
 -- The turns of `sole` and `sound_file`. Assumes nothing.
 use mathlib.Core.Path.{◌≡◌, refl, sym, ap, ◌∙◌, subst}
-use mathlib.Core.Bool.{Bool, true, false, not, true≢false}
+use mathlib.Core.Bool.{Bool, true, false, true≢false}
 use Prim.Native.Nat.{ℕ, ◌+◌, ◌-◌, ◌*◌, ◌<◌}
 use native.Mathlib.Numerals.{add-one}
 use native.Mathlib.Omega.{arith}
@@ -56,15 +56,15 @@ pub part_is : (file : List ℕ) (b : ℕ) (r : Bool) → r ≡ sound_block (take
 unfolding piece
 part_is file b r e = let k : b * 512 + 512 - b * 512 ≡ 512 = omega arith in e ∙ ap (λ (j : ℕ). sound_block (take j (drop (b * 512) file))) k
 
-pub unsound : (file : List ℕ) (b : ℕ) (r : Bool) → b < blocks_in file → r ≡ sound_block (piece 512 b file) → not r ≡ true → false ≡ sound_file file
+pub unsound : (file : List ℕ) (b : ℕ) (r : Bool) → b < blocks_in file → r ≡ sound_block (piece 512 b file) → r ≡ false → false ≡ sound_file file
 unfolding sound_file
-unsound file b true l e t = absurd (true≢false (sym t))
+unsound file b true l e t = absurd (true≢false t)
 unsound file b false l e t =
     sym (never (every (λ k. sound_block (piece 512 k file)) (blocks_in file)) (λ u. true≢false (sym (every_at (λ k. sound_block (piece 512 k file)) (blocks_in file) b u l) ∙ sym e)))
 
-pub sound_here : (file : List ℕ) (b : ℕ) (r : Bool) → r ≡ sound_block (piece 512 b file) → not r ≡ false → sound_block (piece 512 b file) ≡ true
+pub sound_here : (file : List ℕ) (b : ℕ) (r : Bool) → r ≡ sound_block (piece 512 b file) → r ≡ true → sound_block (piece 512 b file) ≡ true
 sound_here file b true e t = sym e
-sound_here file b false e t = absurd (true≢false t)
+sound_here file b false e t = absurd (true≢false (sym t))
 
 pub sound_all : (file : List ℕ) (b : ℕ) → b ≡ blocks_in file → ((k : ℕ) → k < b → sound_block (piece 512 k file) ≡ true) → true ≡ sound_file file
 unfolding sound_file

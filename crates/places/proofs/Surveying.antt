@@ -1,6 +1,6 @@
 -- The ends of `survey`: the table is full exactly where every number stands once. Assumes nothing.
 use mathlib.Core.Path.{◌≡◌, refl, sym, ap, ◌∙◌, subst}
-use mathlib.Core.Bool.{Bool, true, false, not, true≢false}
+use mathlib.Core.Bool.{Bool, true, false, true≢false}
 use Prim.Native.Nat.{ℕ, suc, ◌<◌}
 use native.Mathlib.Omega.{arith}
 use mathlib.Core.List.{List}
@@ -34,16 +34,16 @@ other_size v s p n file pos e ne = record {
   places = λ u. absurd (true≢false (sym u));
 }
 
-pub refused_survey : (v s p n : ℕ) (file pos : List ℕ) (r : Bool) → n ≡ total v s p → Entered (number_at v s p file) (blocks_in file) n pos r → not r ≡ true → Surveyed v s p file pos false
-refused_survey v s p n file pos true e h t = absurd (true≢false (sym t))
+pub refused_survey : (v s p n : ℕ) (file pos : List ℕ) (r : Bool) → n ≡ total v s p → Entered (number_at v s p file) (blocks_in file) n pos r → r ≡ false → Surveyed v s p file pos false
+refused_survey v s p n file pos true e h t = absurd (true≢false t)
 refused_survey v s p n file pos false e h t = record {
   decides = sym (ap (exactly (number_at v s p file) (blocks_in file)) (sym e) ∙ h.refused refl);
   places = λ u. absurd (true≢false (sym u));
 }
 
-pub full_survey : (v s p n : ℕ) (file pos : List ℕ) (r q : Bool) → n ≡ total v s p → Entered (number_at v s p file) (blocks_in file) n pos r → not r ≡ false
+pub full_survey : (v s p n : ℕ) (file pos : List ℕ) (r q : Bool) → n ≡ total v s p → Entered (number_at v s p file) (blocks_in file) n pos r → r ≡ true
     → q ≡ every (entered pos) n → Surveyed v s p file pos q
-full_survey v s p n file pos false q e h t d = absurd (true≢false t)
+full_survey v s p n file pos false q e h t d = absurd (true≢false (sym t))
 full_survey v s p n file pos true q e h t d =
     let m : Marked (number_at v s p file) n (blocks_in file) pos = h.marked refl in
     record {

@@ -1,4 +1,6 @@
 // The reader's survey of a file: whether every block that the setup calls for stands exactly once and no other does, and where each stands.
+#![tactic(auto)]
+
 ghost use Rattle.std.specs.Prelude.{◌≡◌, ◌&&◌, ℕ, ◌+◌, ◌*◌, ◌≤◌, ◌<◌, eqb, length, get_or};
 ghost use Rattle.places.specs.Places.{pick, tally, every};
 ghost use Rattle.blocks.specs.Blocks.{total};
@@ -9,7 +11,7 @@ ghost use Rattle.places.specs.Survey.{Small, Entered, Surveyed, entered};
 ghost use Rattle.places.specs.Places.{blocks_in};
 
 // A setup's blocks: voices, slots, parts of a ring.
-#[derive(Drop)]
+#[derive(Clone, Copy)]
 pub struct Sizes {
     pub voices: usize,
     pub slots: usize,
@@ -17,7 +19,7 @@ pub struct Sizes {
 }
 
 // Where a block stands, if one alone has its head.
-#[derive(Drop)]
+#[derive(Clone, Copy)]
 pub enum Place {
     At(usize),
     Not,
@@ -74,8 +76,8 @@ fn index_of(z: Sizes, head: usize) -> usize
 // Enters every block in the table; whether all are called for and none is doubled.
 fn mark_all(file: &[u8], z: Sizes, n: usize, pos: &mut [u16]) -> bool
     requires small { Small z.voices z.slots z.parts }
-    requires n_value { (n ≡ total z.voices z.slots z.parts) × (n ≤ length pos.old) × (blocks_in file.now ≤ 65535) }
-    requires by_index { (k : ℕ) → k < n → get_or pos.old k 0 ≡ 0 }
+    requires fits { (n ≡ total z.voices z.slots z.parts) × (n ≤ length pos.old) × (blocks_in file.now ≤ 65535) }
+    requires clear { (k : ℕ) → k < n → get_or pos.old k 0 ≡ 0 }
     ensures { Entered (number_at z.voices z.slots z.parts file.now) (blocks_in file.now) n pos.new result }
 {
     let blocks = file.len() / 512;
@@ -112,8 +114,8 @@ fn full(pos: &[u16], n: usize) -> bool
 // Whether every block called for stands exactly once and no other does; `pos` then has where each stands, plus 1.
 pub fn survey(file: &[u8], z: Sizes, pos: &mut [u16]) -> bool
     requires small { Small z.voices z.slots z.parts }
-    requires parts_in_bounds { total z.voices z.slots z.parts ≤ length pos.old }
-    requires by_index { (k : ℕ) → k < total z.voices z.slots z.parts → get_or pos.old k 0 ≡ 0 }
+    requires fits { total z.voices z.slots z.parts ≤ length pos.old }
+    requires clear { (k : ℕ) → k < total z.voices z.slots z.parts → get_or pos.old k 0 ≡ 0 }
     ensures { Surveyed z.voices z.slots z.parts file.now pos.new result }
 {
     let n = 2 + z.voices + z.slots + z.slots * z.parts;

@@ -1,4 +1,6 @@
 // The pole-zero filter's points (pole_zero.rs): what a point does, its values in their ranges, its section, and a state of eight points.
+#![tactic(auto)]
+
 ghost use Rattle.std.specs.Prelude.{◌≡◌, Bool, List};
 ghost use Rattle.points.specs.Points.{default_point, clamp_or, clamped_kind, clamped, new_section, section_of_kind, section_of, values, bypass_at};
 ghost use Rattle.points.specs.Points.{between, section_between, is_bypass, default_state};
@@ -22,7 +24,7 @@ const NEUTRAL_HZ: f32 = 425.012;
 const FRAC_1_SQRT_2: f32 = 0.707106781186547524400844362104849039;
 
 // What a point does: a bell has its gain in decibels, a free point its zero's frequency and Q.
-#[derive(Drop)]
+#[derive(Clone, Copy)]
 pub enum PointKind {
     HighPass,
     LowPass,
@@ -35,7 +37,7 @@ pub enum PointKind {
 }
 
 // One point: a second-order section.
-#[derive(Drop)]
+#[derive(Clone, Copy)]
 pub struct Point {
     pub kind: PointKind,
     pub frequency: f32,
@@ -43,7 +45,7 @@ pub struct Point {
 }
 
 // A point's section in the form the filter blends.
-#[derive(Drop)]
+#[derive(Clone, Copy)]
 pub struct Section {
     pub octaves: f32,
     pub damping: f32,
@@ -53,7 +55,7 @@ pub struct Section {
 }
 
 // One state: eight points.
-#[derive(Drop)]
+#[derive(Clone, Copy)]
 pub struct State {
     pub points: [Point; 8],
 }

@@ -1,7 +1,6 @@
 -- Laws on the table: at most eight sections are in use, the list has 320 numbers, the axes are the design's, and the default design's table has no section.
 -- The first two hold after each turn of the loop over the points; the third by computing the test of each point.
-use Prim.Native.Nat.{ℕ, suc, ◌+◌, ◌*◌, ◌≤◌, ◌<◌}
-use native.Mathlib.Nat.{le_refl}
+use Prim.Native.Nat.{ℕ, suc, ◌+◌, ◌≤◌, ◌<◌}
 use native.Mathlib.Omega.{arith}
 use mathlib.Core.Path.{◌≡◌, refl, ◌∙◌}
 use mathlib.Core.List.{List}

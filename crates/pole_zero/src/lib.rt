@@ -1,5 +1,7 @@
 // The pole-zero filter's design (pole_zero.rs): four states of eight points each, morphed by x and y, or eight states, morphed by z too (document 02,
 // C-17), an overall gain, and the table that the kernel runs.
+#![tactic(auto)]
+
 ghost use Rattle.std.specs.Prelude.{◌≡◌, Bool, List, ◌+◌, ◌*◌, ◌<◌, ◌≤◌};
 ghost use Rattle.parts.specs.Parts.{patch};
 ghost use Rattle.pole_zero.specs.PoleZero.{default_design, point_at, design_gain, refusal_of, values_of, section_refusal, section_values, blend};
@@ -17,7 +19,7 @@ const NEAR: usize = 0;
 const FAR: usize = 4;
 
 // A pole-zero filter's whole design. With two axes the states at z = 1 are not read.
-#[derive(Drop)]
+#[derive(Clone, Copy)]
 pub struct PoleZeroDesign {
     pub states: [State; 8],
     pub three: bool,
@@ -26,7 +28,7 @@ pub struct PoleZeroDesign {
 
 // A design in the form the kernel runs: 20 numbers for each point that does something, in the face at z = 0, 160 numbers, and then in that at z = 1,
 // which is read if there are three axes.
-#[derive(Drop)]
+#[derive(Clone, Copy)]
 pub struct Table {
     pub active: u32,
     pub three: bool,
@@ -35,7 +37,7 @@ pub struct Table {
 }
 
 // What `PoleZeroDesign::section` answers: the section, or refusal 11.
-#[derive(Drop)]
+#[derive(Clone, Copy)]
 pub enum Answer {
     Values(Section),
     Refused,

@@ -1,7 +1,7 @@
 -- At z = 0 the tick's section number is the near face's (document 02, C-17): "At z = 0, where A and B - A are finite, the section number equals A in
 -- value". A smoothed z of either zero is held to +0; then by points/specs/AtZero. A blended number is a sum, so it is an f32. Assumes nothing.
 use Rattle.std.specs.Prelude.{◌≡◌, refl, ℕ, ◌+◌, zero as nought, suc, Bool, true, false, cond, List, pos, T, Float}
-use Rattle.std.proofs.Common.{sym, ap, arith}
+use Rattle.std.proofs.Common.{sym, arith}
 use Rattle.std.proofs.Math.Path.{subst}
 use Rattle.std.specs.Float.{nan, inf, fin}
 use Rattle.std.specs.Float.Ieee.{binary32, round, lt, is_nan, eq, fits}

@@ -2,4 +2,3 @@
 pub mod Poles
 pub mod AtZero
 pub mod Numbers
-pub mod Heard

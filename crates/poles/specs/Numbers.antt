@@ -2,7 +2,7 @@
 -- The numbers of a table's sections at one pitch, X, Y and Z, as a list: five a section, for the sections that run, then the pitch, X, Y and Z.
 -- Definitions, and the laws that the sections of that list are the table's and that eight marks are those of the sections that run.
 -- Assumes nothing.
-use Rattle.std.specs.Prelude.{◌≡◌, Bool, true, false, List, [], ◌∷◌, ◌++◌, eqb, ltb, get_or}
+use Rattle.std.specs.Prelude.{◌≡◌, Bool, true, false, List, [], ◌∷◌, ◌++◌, eqb, ltb}
 use Rattle.std.proofs.Math.Path.{refl, ap}
 use Rattle.std.proofs.Common.{sym, ◌∙◌, subst, add-zero, lt-ltb, le-ltb, ltb-true, ltb-false}
 use Prim.Native.Nat.{ℕ, zero, suc, ◌+◌, ◌*◌, ◌/◌, ◌%◌, ◌≤◌, ◌<◌, min}
@@ -84,18 +84,6 @@ near_at sections d at = blend_of sections at d.x d.y
 
 unfoldable pub between_at : (sections : List Float) → Pad → ℕ → Float
 between_at sections d at = between (blend_of sections at d.x d.y) (blend_of sections (far_face + at) d.x d.y) (unit_or0 d.z)
-
--- by the table's axes
-module _ (sections : List Float) (d : Pad) where
-  by_axes : (b : Bool) → d.three ≡ b → (λ i. cond b (between_at sections d i) (near_at sections d i)) ≡ number_at sections d
-  unfolding near_at between_at number_at
-  by_axes b h = λ t i. cond (sym h t) (between_at sections d i) (near_at sections d i)
-
-  pub two_axes : d.three ≡ false → near_at sections d ≡ number_at sections d
-  two_axes = by_axes false
-
-  pub three_axes : d.three ≡ true → between_at sections d ≡ number_at sections d
-  three_axes = by_axes true
 
 -- the five numbers of section j, in the face that begins at `face`
 unfoldable pub face_section : (sections : List Float) (face j : ℕ) (x y : Float) → Section

@@ -1,5 +1,7 @@
 // The pole-zero filter: a table's active sections in series, each a state-variable stage whose frequency, damping and output mix are
 // blended at this sample's X, Y and Z, then the overall gain.
+#![tactic(auto)]
+
 ghost use Rattle.std.specs.Prelude.{◌≡◌, ◌+◌, ◌<◌, ◌≤◌, min};
 ghost use Rattle.filter.specs.Filter.{octaves_of};
 ghost use Rattle.poles.specs.Poles.{term, blend_of, pad_of, number_at, pole_over, pole_mix, pole_stage, pole_step};
@@ -15,7 +17,7 @@ use points::Section;
 const FAR_FACE: usize = 160;
 
 // What a table has beside its numbers: how many of its sections run in series, whether it has three axes, and the gain after the sections.
-#[derive(Drop)]
+#[derive(Clone, Copy)]
 pub struct Series {
     pub active: u32,
     pub three: bool,
@@ -23,7 +25,7 @@ pub struct Series {
 }
 
 // Where a frame stands on the pad: whether the table has three axes, X and Y, and the smoothed Z.
-#[derive(Drop)]
+#[derive(Clone, Copy)]
 pub struct Pad {
     pub three: bool,
     pub x: f32,
@@ -32,7 +34,7 @@ pub struct Pad {
 }
 
 // One section's gain, damping and output weights.
-#[derive(Drop)]
+#[derive(Clone, Copy)]
 pub struct PoleSection {
     pub g: f32,
     pub k: f32,
@@ -42,7 +44,7 @@ pub struct PoleSection {
 }
 
 // A section, and 1 if its ratio was greater than the cap, else 0.
-#[derive(Drop)]
+#[derive(Clone, Copy)]
 pub struct JudgedSection {
     pub section: PoleSection,
     pub over: u32,
@@ -218,7 +220,7 @@ fn marked(a: u32, b: u32, c: u32, d: u32, e: u32, f: u32, g: u32, h: u32) -> u32
 }
 
 // The numbers of all sections, and how many of the running ones' ratios were greater than their cap.
-#[derive(Drop)]
+#[derive(Clone, Copy)]
 pub struct Blended {
     pub numbers: [f32; 44],
     pub over: u32,

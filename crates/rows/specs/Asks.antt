@@ -1,7 +1,10 @@
 -- For the proofs: nothing here must be believed.
 -- The blocks of a list by one number, block j holding part j % p of row j / p; what the code asks and promises. Definitions only.
-use Rattle.std.specs.Prelude.{ℕ, ◌+◌, ◌*◌, ◌/◌, ◌%◌, ◌≤◌, ◌<◌, List, ltb, length, get_or, Float}
+use Rattle.std.specs.Prelude.{◌≡◌, ℕ, ◌+◌, ◌*◌, ◌/◌, ◌%◌, ◌≤◌, ◌<◌, List, T, ltb, length, get_or, Float}
+use Rattle.std.specs.Float.Ieee.{nan, fits}
+use Rattle.std.specs.Float.{binary32}
 use Rattle.parts.specs.Parts.{upto, tab, patch}
+use Rattle.text.specs.Text.{bits_of}
 use Rattle.file_words.specs.Words.{float_of}
 use Rattle.blocks.specs.Blocks.{head_of, block_bytes, content_at}
 use Rattle.places.specs.Places.{pick}
@@ -26,6 +29,14 @@ cell_at found C L p i = float_of (pick (ltb (i % L) C) (content_at (found (i / L
 unfoldable pub restored_rows : (ℕ → List ℕ) → (C L p n : ℕ) → List Float
 unfolding cell_at
 restored_rows found C L p n = tab (cell_at found C L p) n
+
+-- a list of f32s
+abbrev pub F32s : List Float → Type 0
+F32s xs = (i : ℕ) → i < length xs → T (fits binary32 (get_or xs i nan))
+
+-- what is not carried has no bit set
+abbrev pub Blank : (C L : ℕ) → List Float → (n : ℕ) → Type 0
+Blank C L xs n = (i : ℕ) → i < n → C ≤ i % L → bits_of (get_or xs i nan) ≡ 0
 
 -- ---- what the code asks
 

@@ -1,4 +1,3 @@
 -- To be read: Rows.
 pub mod Rows
 pub mod Asks
-pub mod Back

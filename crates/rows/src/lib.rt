@@ -1,5 +1,7 @@
 // A list of rows parked in blocks of 126 numbers, and restored from the blocks that a table of places names. Of a row of `len` numbers the first
 // `carried` are parked; the others are restored as 0.
+#![tactic(auto)]
+
 ghost use Rattle.std.specs.Prelude.{◌≡◌, ◌+◌, ◌-◌, ◌*◌, ◌≤◌, ◌<◌, length, get_or};
 ghost use Rattle.parts.specs.Parts.{piece};
 ghost use Rattle.rows.specs.Rows.{cell_word, row_words};

@@ -1,4 +1,6 @@
 // One frame of one slot: the body of the frame loop of Run::go for the scalar lane, and the numbers worked out once a block.
+#![tactic(auto)]
+
 ghost use Rattle.std.specs.Prelude.{◌≡◌, true, ◌≤◌, Float};
 ghost use Rattle.lane.specs.Floats.{◌⊕◌};
 ghost use Rattle.extended.specs.Extended.{unit_or0};
@@ -50,7 +52,7 @@ const LAG_X: usize = 18;
 const LAG_Y: usize = 19;
 
 // The numbers that are worked out once a block, and the setup's chord.
-#[derive(Drop)]
+#[derive(Clone, Copy)]
 pub struct Constants {
     pub alpha: f32,
     pub clip_in: f32,
@@ -61,7 +63,7 @@ pub struct Constants {
 }
 
 // What a block has of its setup for every tick: the structure's code, the table's active sections, axes and gain, the constants.
-#[derive(Drop)]
+#[derive(Clone, Copy)]
 pub struct Structure {
     pub code: u32,
     pub active: u32,
@@ -72,7 +74,7 @@ pub struct Structure {
 
 // What a frame brings to a slot: the channel's sign, the voice's pitch, the input sample, and what X and Y are steered by, zeros where it is
 // unsteered.
-#[derive(Drop)]
+#[derive(Clone, Copy)]
 pub struct FrameInput {
     pub sign: f32,
     pub pitch: Pitch,
@@ -154,7 +156,7 @@ fn smooth_on(params: &mut [f32; 11], targets: &[f32; 11], alpha: f32, glided: bo
 }
 
 // The pitch, X and Y that a frame's kernel takes.
-#[derive(Drop)]
+#[derive(Clone, Copy)]
 pub struct Controls {
     pub pitch: f32,
     pub x: f32,
@@ -228,7 +230,7 @@ fn mix(params: &[f32; 11], input: f32, wet: f32) -> f32
 }
 
 // A frame's sample, and how often its kernel judged a ratio greater than the cap.
-#[derive(Drop)]
+#[derive(Clone, Copy)]
 pub struct Sample {
     pub out: f32,
     pub over: u32,

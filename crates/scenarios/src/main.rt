@@ -3,17 +3,23 @@
 // out; a line that cannot be read gives `?`.
 // Limits: targets 176 numbers, records 1,024, delay 65,536, each lent with one more at most; pitch, x and y 8,192 numbers each,
 // audio 16,384, counts 1,024; the input 1,048,576 bytes.
-ghost use Rattle.std.specs.Prelude.{◌<◌, ◌≤◌, length};
+#![tactic(auto)]
+
+ghost use Rattle.std.specs.Prelude.{◌≡◌, ◌<◌, ◌≤◌, length, take, IfOk, IfSome};
+ghost use Rattle.std.specs.Io.{ReadsAtMost};
+ghost use Rattle.std.specs.Io.KnownBytes.{Consumes};
 
 use bank::Answer;
 use checks::Setup;
 use extended::Chord;
 use filter::VoiceParams;
 use pole_zero::Table;
+use std::io;
+use std::io::{Read, Write};
 use text::Span;
 
 // How many numbers of targets, records and delay are lent.
-#[derive(Drop)]
+#[derive(Clone, Copy)]
 struct Lengths {
     targets: usize,
     records: usize,
@@ -25,7 +31,7 @@ struct Lengths {
 // the next one's list of counts has `counts` numbers; where a `scratch` line `told` so, the next audition's scratch lists have
 // those lengths. Those from `heard` on are as its lines are read: `heard` tells an audition, `awaited` counts the lines still to
 // come, and `pitch` to `audio` are how many numbers its lists have.
-#[derive(Drop)]
+#[derive(Clone, Copy)]
 struct State {
     setup: Setup,
     cursor: usize,
@@ -47,34 +53,34 @@ struct State {
 }
 
 // A state that a line was read into; not ok where it cannot be read.
-#[derive(Drop)]
+#[derive(Clone, Copy)]
 struct StateRead {
     state: State,
     ok: bool,
 }
 
-#[derive(Drop)]
+#[derive(Clone, Copy)]
 struct TableRead {
     table: Table,
     ok: bool,
 }
 
 // How many numbers a list has; not ok where it cannot be read or does not fit.
-#[derive(Drop)]
+#[derive(Clone, Copy)]
 struct ListRead {
     count: usize,
     ok: bool,
 }
 
 // A number and how often it stands in a row; 0 times where the word is no run.
-#[derive(Drop)]
+#[derive(Clone, Copy)]
 struct Run {
     value: f32,
     count: usize,
 }
 
 // The state after a line, and a position: where the output ends in the buffer, or where the next line starts.
-#[derive(Drop)]
+#[derive(Clone, Copy)]
 struct Step {
     state: State,
     at: usize,
@@ -237,8 +243,8 @@ fn put_digest(out: &mut [u8], at: usize, xs: &[f32]) -> usize {
     let mut i = 0;
     while i < xs.len() {
         let bits = text::bits_of(xs[i]);
-        s1 = std::num::wrapping_add_u32(std::num::wrapping_add_u32(s1, bits), 1);
-        s2 = std::num::wrapping_add_u32(s2, s1);
+        s1 = s1.wrapping_add(bits).wrapping_add(1);
+        s2 = s2.wrapping_add(s1);
         i += 1;
     }
     let p = text::put_bytes(out, at, b"h ");
@@ -1173,14 +1179,17 @@ fn put_comment(out: &mut [u8], s: &[u8]) -> usize {
     0
 }
 
-fn write(out: &[u8], n: usize) {
+// Writes the first n bytes; none where `out` has fewer.
+fn write<W: Write>(output: &mut W, out: &[u8], n: usize) -> io::Result<()> {
     if n <= out.len() {
-        io::write_all(1, &out[0..n]);
+        return output.write_all(&out[0..n]);
     }
+    Ok(())
 }
 
 // Reads a line without its newline, and writes it and its answer.
-fn line(
+fn line<W: Write>(
+    output: &mut W,
     s: &[u8],
     st: State,
     targets: &mut [f32; 177],
@@ -1191,22 +1200,24 @@ fn line(
     y: &mut [f32; 8192],
     audio: &mut [f32; 16384],
     out: &mut [u8; 524288],
-) -> State {
+) -> io::Result<State> {
     if is_command(s) {
         let step = command(s, st, targets, records, delay, pitch, x, y, audio, out);
-        write(out, step.at);
+        write(output, out, step.at)?;
         let state = step.state;
-        return state;
+        return Ok(state);
     }
     let n = put_comment(out, s);
-    write(out, n);
-    st
+    write(output, out, n)?;
+    Ok(st)
 }
 
 // The end of the line at `at`, of a text of n bytes.
 fn end_of(s: &[u8], n: usize, at: usize) -> usize
-    requires { (at < n) × (n ≤ length s.now) }
-    ensures { (at ≤ result) × (result ≤ n) }
+    requires inside { at < n }
+    requires within { n ≤ length s.now }
+    ensures after { at ≤ result }
+    ensures before { result ≤ n }
 {
     let end = text::line_end(&s[0..n], at);
     if end < at {
@@ -1217,14 +1228,17 @@ fn end_of(s: &[u8], n: usize, at: usize) -> usize
 
 // The position after a newline at `end`, or the text's end.
 fn after(at: usize, end: usize, n: usize) -> usize
-    requires { (at < n) × (at ≤ end) }
-    ensures { (at < result) × (result ≤ n) }
+    requires inside { at < n }
+    requires after { at ≤ end }
+    ensures further { at < result }
+    ensures within { result ≤ n }
 {
     if end < n { end + 1 } else { n }
 }
 
 // Every line of the first n bytes.
-fn replay(
+fn replay<W: Write>(
+    output: &mut W,
     s: &[u8],
     n: usize,
     targets: &mut [f32; 177],
@@ -1235,13 +1249,14 @@ fn replay(
     y: &mut [f32; 8192],
     audio: &mut [f32; 16384],
     out: &mut [u8; 524288],
-) {
+) -> io::Result<()> {
     let n = at_most(n, s.len());
     let mut st = fresh();
     let mut at = 0;
     while at < n {
         let end = end_of(s, n, at);
         st = line(
+            output,
             &s[at..end],
             st,
             targets,
@@ -1252,17 +1267,41 @@ fn replay(
             y,
             audio,
             out,
-        );
+        )?;
         at = after(at, end, n);
     }
+    Ok(())
 }
 
-fn read_input(input: &mut [u8; 1048576]) -> usize {
-    io::read_full(0, input)
+// Fills `buf` from its start with what the input has, and answers the number of bytes; what `buf` has no room for is not read.
+fn read_full<R: Read>(input: &mut R, buf: &mut [u8]) -> io::Result<usize>
+    ensures count { ReadsAtMost result buf.new }
+    ensures bytes { IfOk result (λ n. IfSome (R.remaining input.old)
+        (λ xs. take n buf.new ≡ take (length buf.new) xs)) }
+    ensures no_more { IfOk result (λ n. Consumes (R.remaining input.old) (R.remaining input.new) (take n buf.new)) }
+{
+    let mut n = 0;
+    while n < buf.len() {
+        let got = input.read(&mut buf[n..])?;
+        if got == 0 {
+            return Ok(n);
+        }
+        n += got;
+    }
+    Ok(n)
+}
+
+fn read_input<R: Read>(reader: &mut R, input: &mut [u8; 1048576]) -> io::Result<usize>
+    ensures count { IfOk result (λ n. n ≤ 1048576) }
+    ensures bytes { IfOk result (λ n. IfSome (R.remaining reader.old) (λ xs. take n input.new ≡ take 1048576 xs)) }
+    ensures no_more { IfOk result (λ n. Consumes (R.remaining reader.old) (R.remaining reader.new) (take n input.new)) }
+{
+    read_full(reader, input)
 }
 
 // The same with the input's array by its type: the length of a local array of this size takes the prover too deep.
-fn replay_input(
+fn replay_input<W: Write>(
+    output: &mut W,
     input: &[u8; 1048576],
     n: usize,
     targets: &mut [f32; 177],
@@ -1273,11 +1312,13 @@ fn replay_input(
     y: &mut [f32; 8192],
     audio: &mut [f32; 16384],
     out: &mut [u8; 524288],
-) {
-    replay(input, n, targets, records, delay, pitch, x, y, audio, out);
+) -> io::Result<()> {
+    replay(
+        output, input, n, targets, records, delay, pitch, x, y, audio, out,
+    )
 }
 
-fn main() {
+fn main(rt: HostRuntime) -> io::Result<()> {
     let mut input = [0u8; 1048576];
     let mut targets = [0f32; 177];
     let mut records = [0f32; 1025];
@@ -1287,8 +1328,9 @@ fn main() {
     let mut y = [0f32; 8192];
     let mut audio = [0f32; 16384];
     let mut out = [0u8; 524288];
-    let n = read_input(&mut input);
+    let n = read_input(&mut rt.stdin(), &mut input)?;
     replay_input(
+        &mut rt.stdout(),
         &input,
         n,
         &mut targets,
@@ -1299,5 +1341,5 @@ fn main() {
         &mut y,
         &mut audio,
         &mut out,
-    );
+    )
 }

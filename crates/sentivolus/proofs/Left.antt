@@ -2,7 +2,7 @@
 use mathlib.Core.Path.{◌≡◌, refl, ap, ◌∙◌, subst}
 use native.Mathlib.Omega.{arith}
 use Prim.Native.Nat.{ℕ}
-use mathlib.Core.List.{List, [], ◌∷◌}
+use mathlib.Core.List.{List, ◌∷◌, []}
 use lib.Ieee.{Float}
 use Rattle.voices.specs.Calls.{Check, fine, refused, Bank, Block, Run, Answer, kept, call_block, call_audition, perform, call, verdict}
 use Rattle.checks.specs.declared.Setup.{Setup}

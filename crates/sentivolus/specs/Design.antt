@@ -1,7 +1,7 @@
 -- A design as flat numbers, for callers in C: 64 kind numbers and 256 floats, state by state, point by point, and whether it has three axes (document 02,
 -- C-17); with two the last four states are not read.
 -- Definitions only. Assumes nothing.
-use Rattle.std.specs.Prelude.{◌≡◌, ℕ, ◌+◌, ◌*◌, Bool, cond, List, [], ◌∷◌, ◌++◌, eqb, get_or, Float}
+use Rattle.std.specs.Prelude.{◌≡◌, ℕ, ◌+◌, ◌*◌, Bool, cond, List, [], ◌∷◌, eqb, get_or, Float}
 use Rattle.lane.specs.Floats.{◌‼◌}
 use Rattle.parts.specs.Parts.{tab}
 use Rattle.filter.specs.declared.Stage.{Stage}

@@ -2,7 +2,5 @@
 pub mod Setup
 pub mod Order
 pub mod Parked
-pub mod Heard
 pub mod Back
 pub mod AnyOrder
-pub mod Accepted

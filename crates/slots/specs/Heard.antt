@@ -17,7 +17,7 @@ use Rattle.kernels.specs.Heard.{SameTeeth}
 use Rattle.run.specs.Heard.{tick_heard, tick_chord}
 use Rattle.setups.specs.Setup.{SoloSetup, heard_table, heard_chord, heard}
 use Rattle.setups.specs.Parked.{solo_in, voices_in, bank_in, restore_verdict}
-use Rattle.setups.specs.Heard.{heard_twice, same_check}
+use Rattle.setups.proofs.Heard.{heard_twice, same_check}
 use Rattle.voices.specs.Calls.{Steering}
 use Rattle.slots.specs.Engine.{tick_of, engine_of}
 

@@ -1,4 +1,6 @@
 // The slots of a bank's lent lists: one slot started, loaded and stored, one frame of it, and the frames after a frame that left it as it was.
+#![tactic(auto)]
+
 ghost use Rattle.std.specs.Prelude.{◌≡◌, ℕ, ◌+◌, ◌*◌, ◌%◌, ◌^◌, ◌<◌, ◌≤◌, true, [], ◌∷◌, ◌++◌, length, take, drop, replicate, if◌then◌else◌, Float};
 ghost use Rattle.std.proofs.Math.Seq.{paste};
 ghost use Rattle.parts.specs.Parts.{patch};
@@ -133,7 +135,7 @@ pub fn start_slot(
 
 // What a block works with beside the lists: the setup's numbers but for its table's sections, the block's, and what is worked out
 // from them once: the number of slots, the ring's length and what every tick takes.
-#[derive(Drop)]
+#[derive(Clone, Copy)]
 pub struct Prepared {
     pub m: Structure,
     pub rate: f32,
@@ -150,7 +152,7 @@ pub struct Prepared {
 }
 
 // A slot: its channel and voice, its number, and the channel's sign.
-#[derive(Drop)]
+#[derive(Clone, Copy)]
 pub struct Slot {
     pub channel: usize,
     pub voice: usize,

@@ -1,5 +1,7 @@
 // The square root of an f32 (document 01, Floats): NaN, infinity and both zeros as themselves, a negative number NaN,
 // else the f32 nearest the true root. Whole numbers decide: a first guess opens, and comparisons of squares judge or correct it.
+#![tactic(auto)]
+
 ghost use Rattle.std.specs.Prelude.{◌≡◌, ◌+◌, ◌*◌, ◌^◌, ◌<◌, ◌≤◌, true, T, to_bits};
 ghost use Rattle.std.specs.Float.{binary32};
 ghost use Rattle.std.specs.Float.Ieee.{fits};

@@ -1,18 +1,20 @@
 // What the ladders and the expanders share: the numbers of their stages, and the states that the stages leave.
+#![tactic(auto)]
+
 ghost use Rattle.std.specs.Prelude.{◌≡◌};
 ghost use Rattle.stages.specs.Stages.{ladder_states};
 ghost use Rattle.stages.specs.Promises.{stages_of};
 
 // One number a stage, from the first on.
-#[derive(Drop)]
+#[derive(Clone, Copy)]
 pub struct Four(pub f32, pub f32, pub f32, pub f32);
 
 // One number a tap: a ladder's input, then its four stages.
-#[derive(Drop)]
+#[derive(Clone, Copy)]
 pub struct Five(pub f32, pub f32, pub f32, pub f32, pub f32);
 
 // The outputs of a ladder's four stages.
-#[derive(Drop)]
+#[derive(Clone, Copy)]
 pub struct Stages {
     pub y1: f32,
     pub y2: f32,

@@ -1,5 +1,7 @@
 // The kernels on state-variable stages: BuzzMorph, DjSweep and Diffuser. Each has what follows from the pitch and the settings
 // alone, in a struct of its name, and the step over the input and the states.
+#![tactic(auto)]
+
 ghost use Rattle.std.specs.Prelude.{◌≡◌, ◌<◌};
 ghost use Rattle.extended.specs.Extended.{ticked};
 ghost use Rattle.sweeps.specs.Sweeps.{buzz_with, buzz_mix, buzz_step};
@@ -16,7 +18,7 @@ const BUZZ_KNEE: f32 = 3.0;
 
 // The buzz morph: a resonant state-variable stage with an asymmetric shaper before it and a low knee in its resonance path,
 // its output morphing from low-pass through notch to high-pass.
-#[derive(Drop)]
+#[derive(Clone, Copy)]
 pub struct BuzzMorph {
     pub g: f32,
     pub law: f32,
@@ -80,7 +82,7 @@ const DJ_K_MIN: f32 = 0.35;
 
 // The DJ sweep: one state-variable stage whose cutoff control is the sweep, low-pass below its middle and high-pass above,
 // flat around it.
-#[derive(Drop)]
+#[derive(Clone, Copy)]
 pub struct DjSweep {
     pub g: f32,
     pub k: f32,
@@ -131,7 +133,7 @@ pub fn dj_with(g: f32, low_side: f32, wet: f32, p: Settings) -> DjSweep
 }
 
 // The sweep, and whether the ratio of its own cutoff was greater than the cap.
-#[derive(Drop)]
+#[derive(Clone, Copy)]
 pub struct JudgedSweep {
     pub sweep: DjSweep,
     pub over: bool,
@@ -169,7 +171,7 @@ pub fn dj_step(c: DjSweep, state: &mut [f32; 20], x: f32) -> f32
 }
 
 // The diffuser: eight second-order all-pass stages at the cutoff in series, character setting how many are heard, resonance their Q.
-#[derive(Drop)]
+#[derive(Clone, Copy)]
 pub struct Diffuser {
     pub g: f32,
     pub k: f32,
@@ -209,7 +211,7 @@ fn diffuser_weight(n: f32, j: usize) -> f32
 }
 
 // The states, the signal and the output after some stages.
-#[derive(Drop)]
+#[derive(Clone, Copy)]
 pub struct Diffused {
     pub state: [f32; 20],
     pub u: f32,

@@ -4,10 +4,10 @@ use Rattle.std.specs.Prelude.{◌≡◌, true, false, ℕ, ◌+◌, ◌-◌, ◌
 use Rattle.std.proofs.Common.{sym, ap, ◌∙◌, subst, not-suc-le-zero, arith, length-set, get_or-set_same, get_or-set_other}
 use Rattle.std.proofs.Math.Decide.{dec_le, ℕ_discrete}
 use Rattle.std.specs.Float.{nan}
-use Rattle.lane.specs.Floats.{◌⊖◌, ◌‼◌, whole}
-use Rattle.lines.specs.Lines.{whole_part, held, is_length}
+use Rattle.lane.specs.Floats.{◌‼◌}
+use Rattle.lines.specs.Lines.{is_length}
 use Rattle.lines.specs.View.{length_of}
-use Rattle.lines.specs.Delay.{held_between}
+use Rattle.lines.proofs.Delay.{held_between}
 use Rattle.extended.specs.declared.Chord.{Chord}
 use Rattle.teeth.specs.Teeth.{teeth_of, tooth_delay, first_of, is_of_four, is_needed, how_many, tooth_first, cells_needed}
 use Rattle.teeth.specs.Promises.{plan_at, place_of, size_in, fraction_of, Widths, Planned}

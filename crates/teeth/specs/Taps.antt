@@ -14,9 +14,9 @@ use Rattle.lane.specs.Floats as floats
 use Rattle.parts.specs.Parts.{tab, upto, piece}
 use Rattle.parts.specs.Laws.{upto_same, length_tab, tab_at, tab_same}
 use Rattle.lines.specs.Lines.{whole_part, held, cell_of, hermite_of, taps_of, ring_read, is_length, is_view, read_of}
-use Rattle.lines.specs.Laws.{read_good}
+use Rattle.lines.proofs.Laws.{read_good}
 use Rattle.lines.specs.View.{length_of}
-use Rattle.lines.specs.Delay.{held_between}
+use Rattle.lines.proofs.Delay.{held_between}
 use Rattle.extended.specs.declared.Chord.{Chord}
 use Rattle.teeth.specs.Teeth.{ring_taps, taps_sum, teeth_of, tooth_delay, first_of, tooth_first, taps_at, chord_read}
 use Rattle.teeth.specs.Promises.{plan_at, place_of, size_in, Planned}

@@ -1,5 +1,7 @@
 // The teeth of the chord comb, read together. The cells of the ring that they need follow from the delays alone: a plan of them is
 // made once and kept, and each frame loads every cell of the plan once.
+#![tactic(auto)]
+
 ghost use Rattle.std.specs.Prelude.{◌≡◌, true, ℕ, ◌+◌, ◌*◌, ◌%◌, ◌^◌, ◌<◌, ◌≤◌, length, set, replicate};
 ghost use Rattle.lane.specs.Floats.{◌⊕◌, ◌‼◌, zero};
 ghost use Rattle.parts.specs.Parts.{piece};
@@ -41,7 +43,7 @@ fn tooth_delay(ratio: f32, chord: Chord, j: usize) -> f32
 }
 
 // The first of a tooth's four cells, in steps back, and how far between the second and the third it reads.
-#[derive(Drop)]
+#[derive(Clone, Copy)]
 struct Tooth {
     first: usize,
     fraction: f32,

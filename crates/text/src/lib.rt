@@ -1,4 +1,6 @@
 // Numbers as text, on slices of bytes: words of a line, decimals and hexadecimals read and written, and an f32 by its bits.
+#![tactic(auto)]
+
 ghost use Rattle.std.specs.Prelude.{◌≡◌, ◌+◌, ◌<◌, ◌≤◌, length, drop};
 ghost use Rattle.std.specs.Float.{binary32};
 ghost use Rattle.std.specs.Float.Ieee.{of_bits};
@@ -6,21 +8,21 @@ ghost use Rattle.text.specs.Text.{first_of, word_at, line_end, bytes_of, digit_o
 ghost use Rattle.text.specs.Text.{decimal_text, hex_text};
 
 // A part of a text: the bytes from `start` up to, not including, `end`.
-#[derive(Drop)]
+#[derive(Clone, Copy)]
 pub struct Span {
     pub start: usize,
     pub end: usize,
 }
 
 // What reading a number answers.
-#[derive(Drop)]
+#[derive(Clone, Copy)]
 pub enum Number {
     Value(u64),
     Refused,
 }
 
 // What reading a bit pattern answers.
-#[derive(Drop)]
+#[derive(Clone, Copy)]
 pub enum Pattern {
     Bits(u32),
     Malformed,

@@ -1,15 +1,14 @@
 -- Good and bad views (document 01, point 4 of block): a view whose length is no power of two from 1,024 to 65,536, or whose slot ends
--- past the list, reads 0 and writes nothing; a block makes none such. Laws of the definitions of lines/specs/Lines.antt, by the
+-- past the list, reads 0 and writes nothing (proofs/View.antt); a block makes none such. Laws of the definitions of lines/specs/Lines.antt, by the
 -- test for a view; before them what a read promises. Assumes nothing.
 use Rattle.std.specs.Prelude.{◌≡◌, refl, ◌≢◌, ◌⊎◌, Bool, true, false, ◌&&◌, List, ℕ, ◌+◌, ◌*◌, ◌^◌, ◌≤◌, ◌<◌, Float, length}
 use Rattle.std.proofs.Common.{sym, subst, inl, inr, arith}
 use types.Run.{OneOf}
 use Rattle.std.proofs.lemmas.Bool.{lt-leb}
-use Rattle.lane.specs.Floats.{zero}
 use Rattle.parts.specs.Laws.{flat_lt, piece_fits}
-use Rattle.lines.specs.Lines.{rate_refused, ring_len, lengths, is_length, is_view, read_of, write_of}
+use Rattle.lines.specs.Lines.{rate_refused, ring_len, lengths, is_length, is_view, read_of}
 use Rattle.lines.specs.View.{is_bad}
-use Rattle.lines.specs.Laws.{ring_len_good, view_good, write_bad}
+use Rattle.lines.proofs.Laws.{ring_len_good, view_good}
 
 -- ---- what a read promises
 
@@ -40,14 +39,6 @@ view_bad len slot have (inr h) = rw (lt-leb (slot * len + len) have h) (no (is_l
     no : (x : Bool) → x && false ≡ false
     no true = refl
     no false = refl
-
-module _ (xs : List Float) (len cursor slot : ℕ) (v : Float) (bad : Bad len slot (length xs)) where
-  pub read_bad : read_of xs len cursor slot v ≡ zero
-  unfolding read_of
-  read_bad = rw (view_bad len slot (length xs) bad)
-
-  pub write_none : write_of xs len cursor slot v ≡ xs
-  write_none = write_bad xs len cursor slot v (view_bad len slot (length xs) bad)
 
 -- ---- a block's view
 

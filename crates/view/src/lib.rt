@@ -1,5 +1,7 @@
 // The view of the delay lines (lines.rs, `Lines`): the lent delay list, each slot's ring length, the cursor and the slot. A view whose
 // length is no power of two from 1,024 to 65,536, or whose slot ends past the list, reads 0 and writes nothing (specs/View.antt).
+#![tactic(auto)]
+
 ghost use Rattle.std.specs.Prelude.{◌≡◌};
 ghost use Rattle.lines.specs.Lines.{write_of};
 ghost use Rattle.view.specs.View.{ReadLeaves};
@@ -20,14 +22,26 @@ impl<'a> Lines<'a> {
     pub fn read(self, delay: f32) -> f32
         ensures { ReadLeaves self.entry.buf.now self.entry.len self.entry.cursor self.entry.slot delay result self.exit.0.now }
     {
-        lines::read_lent(&mut *self.buf, self.len, self.cursor, self.slot, delay)
+        let Lines {
+            buf,
+            len,
+            cursor,
+            slot,
+        } = self;
+        lines::read_lent(buf, len, cursor, slot, delay)
     }
 
     // Writes this frame's `value` to the cursor's cell of the slot's ring.
     pub fn write(self, value: f32)
         ensures { self.exit.0.now ≡ write_of self.entry.buf.now self.entry.len self.entry.cursor self.entry.slot value }
     {
-        lines::write_at(&mut *self.buf, self.len, self.cursor, self.slot, value);
+        let Lines {
+            buf,
+            len,
+            cursor,
+            slot,
+        } = self;
+        lines::write_at(buf, len, cursor, slot, value);
     }
 }
 

@@ -15,7 +15,6 @@ use Rattle.voices.specs.Calls.{call_block, cursor_after, set_of, start_slot, sta
 use Rattle.voices.specs.Calls.{open_verdict, start_record}
 use Rattle.voices.specs.Calls.{verdict, Run, run, opened, call_park, call_restore, call_audition, file_length, Returning}
 use Rattle.voices.specs.Feed.{Frame, Event, event_start, event_frame, started, fresh, tick_channel, advance, voice_of, feed, samples_of, count_of}
-use Rattle.voices.specs.Voice.{TwoBanks, corollary}
 
 -- two channels, rings of four; a file of one byte holds three voices at the defaults, started; a tick sums the pitches in the record, adds to its
 -- input that of three frames ago and counts by channel and cursor
@@ -46,16 +45,13 @@ example_engine = record {
   };
 }
 
-example_laws : Laws example_engine
+pub example_laws : Laws example_engine
 unfolding example_engine
 example_laws = record {
   targets_length = λ s. refl;
   rec_length = λ c tg cur p i st r d hc ht hr hd. length-set r 0 _ ∙ hr;
   ring_length_lem = λ c tg cur p i st r d hc ht hr hd. length-set d (cur % 4) _ ∙ hd;
 }
-
-sixteen_and_one : TwoBanks example_engine 16 1
-sixteen_and_one = corollary example_engine example_laws 16 1
 
 -- lists for three voices, with any content
 lists : Bank

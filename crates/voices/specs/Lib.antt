@@ -1,12 +1,8 @@
--- To be read: Calls, Feed and the statements of Voice, Alone and Audition. The other files prove these; Example shows that they speak of something.
+-- To be read: Calls, Feed and the statements of Voice, Alone and Audition. Example shows that they speak of something; Accepted is for the proofs.
 pub mod Calls
 pub mod Feed
 pub mod Voice
 pub mod Alone
 pub mod Audition
 pub mod Accepted
-pub mod Slots
-pub mod Plain
-pub mod Blocks
-pub mod Steps
 pub mod Example

@@ -1,4 +1,6 @@
 // The words of a line read by their place, a name found in a list of names, and f32 written by their bits.
+#![tactic(auto)]
+
 ghost use Rattle.std.specs.Prelude.{◌≡◌, drop};
 ghost use Rattle.text.specs.Text.{decimal_of, hex_of, bits_of, buffer, puts, hex_text};
 ghost use Rattle.words.specs.Words.{next_at, word_start, bytes_at, word_of, float_or0, value_or, is_float, is_decimal};

@@ -1,0 +1,7 @@
+-- `expanders::multimode_step` meets its contract: each call gives its part of the definition.
+use Rattle.expanders.specs.Expanders.{multimode_step}
+use Rattle.expanders.proofs.multimode_step.Goals as goal
+
+pub returns : goal.returns
+unfolding multimode_step
+returns c = rw (c.multimode_mix.ensures, c.store_ladder.ensures, c.stages.ensures, c.expander_taps-taps.ensures)

@@ -1,8 +1,0 @@
--- `filter::ratio_of` meets its contract: a half of what the cap gives.
-use Rattle.filter.specs.Judged.{capped_of}
-use Rattle.filter.proofs.ratio_of.Statement.{statement}
-use Rattle.filter.proofs.ratio_of.Tie as tie
-
-pub ratio_of_spec : {M : Type 1} → statement M
-unfolding capped_of
-ratio_of_spec = tie.close (tie.spec (λ c κs. tt) (λ c. rw c.before.capped-of.ensures))

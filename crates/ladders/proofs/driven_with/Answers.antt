@@ -1,0 +1,9 @@
+-- `ladders::driven_with` meets its contract: the operations are the definition's.
+use mathlib.Core.Path.{refl}
+use lib.Ieee.{of_bits, round}
+use Rattle.ladders.specs.Ladders.{driven_with}
+use Rattle.ladders.proofs.driven_with.Goals as goal
+
+pub returns : goal.returns
+unfolding driven_with of_bits round
+returns c = refl

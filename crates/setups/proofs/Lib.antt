@@ -1,0 +1,4 @@
+pub mod Accepted
+pub mod Heard
+pub mod AnyOrder
+pub mod Back

@@ -1,0 +1,10 @@
+-- `copy` meets its contract. The loop's invariant: after i turns the first i numbers are pasted over the list.
+use Rattle.std.proofs.Common.{◌≡◌, ◌-◌, ◌≤◌, length, drop}
+use lib.Seq.{paste}
+use Rattle.slots.proofs.copy.Given as goal
+
+abbrev pub invariant-loop-i : goal.invariant-loop-i
+invariant-loop-i l = (l.i ≤ l.n) × (l.into ≡ paste l.initial.into l.to (drop l.from l.list) l.i) × (length l.into ≡ length l.initial.into)
+
+abbrev pub decreases-loop-i : goal.decreases-loop-i
+decreases-loop-i l = l.n - l.i

@@ -1,0 +1,14 @@
+-- `slot_at` meets its contract: the slot's place among the slots.
+use Rattle.std.proofs.Common.{refl}
+use Rattle.slots.proofs.slot_at.Goals as goal
+
+pub returns : goal.returns
+returns c =
+    let at = c.place_at-number.ensures in (
+      record { channel = c.requires.1; voice = c.requires.2; number = at.0; below = at.1; sign = c.sign.ensures },
+      refl,
+      refl,
+    )
+
+pub place_at-number-requires : goal.place_at-number-requires
+place_at-number-requires c = (c.requires.1, c.requires.2, c.requires.0.slots)

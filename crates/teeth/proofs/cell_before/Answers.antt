@@ -1,0 +1,31 @@
+-- `teeth::cell_before` meets its contract: the steps back end in the ring, or one turn further.
+use mathlib.Core.Path.{ap, ◌∙◌, subst}
+use Prim.Native.Nat.{ℕ, ◌+◌, ◌-◌, ◌<◌, ◌≤◌}
+use native.Mathlib.Omega.{arith}
+use Rattle.lines.specs.View.{Length, length_of}
+use Rattle.teeth.specs.Cells.{cell_near, cell_far}
+use Rattle.teeth.proofs.cell_before.Goals as goal
+
+view : (c : goal.Else-back-own) → Length c.args.len
+view c = length_of _ c.requires.0
+
+pub returns-then-back-own : goal.returns-then-back-own
+returns-then-back-own c =
+    let a = c.args in
+    let h : a.back ≤ a.own = omega arith in (
+      omega arith,
+      λ cursor w e. ap (λ (o : ℕ). o - a.back) e
+          ∙ cell_near a.len cursor a.back c.requires.0 w c.requires.2 (subst (λ (o : ℕ). a.back ≤ o) e h),
+    )
+
+pub overflow_add-result : goal.overflow_add-result
+overflow_add-result c = let v = view c in let m = v.most in omega arith
+
+pub returns : goal.returns
+returns c =
+    let a = c.args in
+    let h : a.own < a.back = omega arith in (
+      omega arith,
+      λ cursor w e. ap (λ (o : ℕ). o + a.len - a.back) e
+          ∙ cell_far a.len cursor a.back c.requires.0 w c.requires.2 (subst (λ (o : ℕ). o < a.back) e h),
+    )

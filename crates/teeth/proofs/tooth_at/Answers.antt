@@ -1,0 +1,42 @@
+-- `teeth::tooth_at` meets its contract: the held delay's whole part is between 2 and len - 3.
+use mathlib.Core.Path.{◌≡◌, sym, ap, ◌∙◌, subst}
+use Prim.Native.Nat.{ℕ, ◌-◌}
+use native.Mathlib.Omega.{arith}
+use lib.Ieee.{Float, of_int}
+use Rattle.lane.specs.Floats.{◌⊖◌, whole}
+use Rattle.lines.specs.Lines.{whole_part, held}
+use Rattle.lines.specs.View.{Length, length_of}
+use Rattle.lines.specs.Whole.{Between, exact}
+use Rattle.lines.proofs.Delay.{held_between}
+use Rattle.teeth.specs.Teeth.{first_of}
+use Rattle.teeth.proofs.tooth_at.Goals as goal
+
+view : (c : goal.Start) → Length c.args.len
+view c = length_of _ c.requires
+
+delay : (c : goal.After-held-d) → Between 2 (c.args.len - 3) c.held-d.result
+delay c =
+    let v = view c.before in
+    let a = c.args in
+    subst (Between 2 (a.len - 3)) (sym c.held-d.ensures) (held_between a.len a.delay v.least v.most)
+
+pub held-d-requires : goal.held-d-requires
+held-d-requires c = let v = view c in (v.least, v.most)
+
+pub whole_part-w-requires : goal.whole_part-w-requires
+whole_part-w-requires c = let v = view c.before in let d = delay c in let l = d.least in let m = d.most in (omega arith, omega arith)
+
+pub overflow_sub-result : goal.overflow_sub-result
+overflow_sub-result c = let d = delay c.before in let l = d.least in omega (arith, c.whole_part-w.ensures)
+
+pub int_to_float-result : goal.int_to_float-result
+int_to_float-result c = let v = view c.before.before.before in let d = delay c.before.before in exact _ (omega (arith, c.whole_part-w.ensures))
+
+pub returns : goal.returns
+unfolding first_of of_int
+returns c =
+    let a = c.args in
+    let h = c.held-d in
+    let u = c.whole_part-w in
+    let e : u.result ≡ whole_part (held a.len a.delay) = u.ensures ∙ ap (λ (d : Float). whole_part d) h.ensures in
+    (ap (λ (n : ℕ). n - 1) e, (λ i. h.ensures i ⊖ whole (e i)))
