@@ -2,5 +2,5 @@
 # Builds the static library and the comparison program. Needs rt and cargo, and no network.
 set -eu
 here=$(cd "$(dirname "$0")" && pwd)
-"$here/../prove.sh" staticlib sentivolus target/staticlib/libsentivolus.a
+"$here/../prove.sh" sentivolus
 cargo build --release --offline --quiet --manifest-path "$here/Cargo.toml"

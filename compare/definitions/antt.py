@@ -10,13 +10,13 @@ from words import Words, split
 
 TOKEN = re.compile(r"""\s+
     | «(?P<quoted>[^»]+)»
-    | \.(?P<field>\w+|«[^»]+»)
+    | (?<=[\w'»)}])\.(?P<field>\w+|«[^»]+»)
     | (?P<number>\d+)
     | (?P<name>[^\W\d][\w'·-]*)
     | (?P<sign>[(){}\[\];,.]|[^\s\w(){}\[\];,.«»]+)""", re.X)
 
 # the library's operators: how tightly they bind, and whether they associate to the left. A file's infix lines add its own
-OPERATORS = {"||": (30, True), "&&": (35, True), "++": (65, True), "∷": (67, False), "+": (80, True), "-": (80, True),
+OPERATORS = {"||": (30, True), "&&": (35, True), "==": (40, True), "++": (65, True), "∷": (67, False), "+": (80, True), "-": (80, True),
              "*": (81, True), "/": (81, True), "%": (81, True), "^": (82, False)}
 
 
@@ -33,19 +33,21 @@ def stored(items, at, values):
 LIBRARY = {
     "add": (3, lambda f, a, b: Tree("add", a, b)), "sub": (3, lambda f, a, b: Tree("sub", a, b)),
     "mul": (3, lambda f, a, b: Tree("mul", a, b)), "div": (3, lambda f, a, b: Tree("div", a, b)),
-    "neg": (1, lambda a: Tree("neg", a)), "lt": (2, lambda a, b: Tree("lt", a, b)), "isNan": (1, is_nan),
+    "neg": (1, lambda a: Tree("neg", a)), "lt": (2, lambda a, b: Tree("lt", a, b)), "is_nan": (1, is_nan),
     "round": (4, lambda f, negative, n, d: literal(Fraction(n, d))), "binary32": (0, None),
-    "getD": (3, lambda items, i, other: items[i] if i < len(items) else other), "length": (1, len),
+    "get_or": (3, lambda items, i, other: items[i] if i < len(items) else other), "length": (1, len),
     "set": (3, lambda items, i, value: stored(items, i, [value])), "sets": (3, stored),
     "take": (2, lambda n, items: items[:n]), "drop": (2, lambda n, items: items[n:]),
     "replicate": (2, lambda n, item: [item] * n), "min": (2, min), "max": (2, max),
-    "eqb": (2, lambda a, b: a == b), "leb": (2, lambda a, b: a <= b), "ltb": (2, lambda a, b: a < b),
-    "true": (0, True), "false": (0, False), "not": (1, lambda a: not a), "_&&_": (2, lambda a, b: a and b), "_||_": (2, lambda a, b: a or b),
-    "_∷_": (2, lambda a, items: [a] + items), "_++_": (2, lambda a, b: a + b),
-    "_+_": (2, lambda a, b: a + b), "_-_": (2, lambda a, b: max(a - b, 0)), "_*_": (2, lambda a, b: a * b),
-    "_/_": (2, lambda a, b: a // b), "_%_": (2, lambda a, b: a % b), "_^_": (2, lambda a, b: a ** b),
+    "true": (0, True), "false": (0, False), "not": (1, lambda a: not a), "◌&&◌": (2, lambda a, b: a and b), "◌||◌": (2, lambda a, b: a or b),
+    "◌∷◌": (2, lambda a, items: [a] + items), "◌++◌": (2, lambda a, b: a + b),
+    "◌+◌": (2, lambda a, b: a + b), "◌-◌": (2, lambda a, b: max(a - b, 0)), "◌*◌": (2, lambda a, b: a * b),
+    "◌/◌": (2, lambda a, b: a // b), "◌%◌": (2, lambda a, b: a % b), "◌^◌": (2, lambda a, b: a ** b),
     "zero": (0, 0), "suc": (1, lambda n: n + 1),
 }
+LIBRARY.update((name, (2, lambda a, b: a == b)) for name in ("eqb", "nat_eq", "◌==◌"))
+LIBRARY.update((name, (2, lambda a, b: a <= b)) for name in ("leb", "nat_le"))
+LIBRARY.update((name, (2, lambda a, b: a < b)) for name in ("ltb", "nat_lt"))
 CASES = ("none", "some", "nan", "inf", "fin")
 
 
@@ -136,18 +138,21 @@ class Reader(Words):
 
     def joined(self, operator, left, right):
         """An operator's value at both sides."""
-        return lambda env: self.module.value("_%s_" % operator)(left(env), right(env))
+        return lambda env: self.module.value("◌%s◌" % operator)(left(env), right(env))
 
     def application(self):
-        """A function at its arguments; a projection is of all that stands before it."""
-        head, arguments = self.atom(), []
-        while True:
-            if self.kind() == "field":
-                head, arguments = self.projected(self.applied(head, arguments), self.next()), []
-            elif self.kind() in ("name", "number") and self.peek() not in ("in", "let") or self.peek() in ("(", "["):
-                arguments.append(self.atom())
-            else:
-                return self.applied(head, arguments)
+        """A function at its arguments."""
+        head, arguments = self.part(), []
+        while self.kind() in ("name", "number") and self.peek() not in ("in", "let") or self.peek() in ("(", "["):
+            arguments.append(self.part())
+        return self.applied(head, arguments)
+
+    def part(self):
+        """An atom, and the projections that stand right behind it."""
+        value = self.atom()
+        while self.kind() == "field":
+            value = self.projected(value, self.next())
+        return value
 
     def applied(self, head, arguments):
         """A head at arguments; `cond` evaluates only the branch it takes."""
@@ -259,7 +264,7 @@ class Module:
     def take(self, chunk):
         """Sorts one item of the file."""
         use = re.match(r"(?:pub\s+)?use\s+(\S+?)\.\{([^}]*)\}", chunk)
-        alias = re.match(r"use\s+Rattle·(\w+?)(?:·specs)?\.specs\.(\w+)\s+as\s+(\w+)\s*$", chunk)
+        alias = re.match(r"use\s+Rattle\.(\w+)\.specs\.(\w+)\s+as\s+(\w+)\s*$", chunk)
         infix = re.match(r"infix([lr]?)\s+(\d+)\s+(.*)", chunk)
         signature = re.match(r"(?:abbrev|unfoldable)\s+(?:pub\s+)?(\S+)", chunk)
         if use:
@@ -267,7 +272,7 @@ class Module:
         elif alias:
             self.aliases[alias[3]] = "%s.%s" % alias.groups()[:2]
         elif infix:
-            OPERATORS.update((word.strip("_"), (int(infix[2]), infix[1] != "r")) for word in infix[3].split())
+            OPERATORS.update((word.strip("◌"), (int(infix[2]), infix[1] != "r")) for word in infix[3].split())
         elif signature:
             self.clauses[signature[1].strip("«»")] = []
         elif re.match(r"(?:pub\s+)?data\s", chunk):
@@ -277,12 +282,12 @@ class Module:
 
     def take_use(self, source, names):
         """Notes where names come from: another file or a variant's cases; all others are the library's."""
-        ours = re.match(r"Rattle·(\w+?)(?:·specs)?\.specs\.(\w+)$", source)
-        if source.endswith(".the-variants"):
+        ours = re.match(r"Rattle\.(?!std\.)(\w+)\.specs\.(\w+)$", source)
+        if source.endswith(".TheVariants"):
             self.cases.update(names)
         elif ours:
             self.uses.update((name, "%s.%s" % ours.groups()) for name in names)
-            if any(name.startswith("_") for name in names):
+            if any(name.startswith("◌") for name in names):
                 self.definitions.module("%s.%s" % ours.groups())  # its infix lines say how to read this file
 
     def take_clause(self, chunk):
@@ -290,7 +295,7 @@ class Module:
         words = chunk.split("=")[0].split()
         name = words[0].strip("«»") if words else ""
         if name not in self.clauses and len(words) == 3:
-            name = "_%s_" % words[1]
+            name = "◌%s◌" % words[1]
         if name in self.clauses:
             self.clauses[name].append(chunk)
 
@@ -332,9 +337,9 @@ class Module:
     def clause(self, name, chunk):
         """A clause's patterns and its body."""
         reader = Reader(self, chunk)
-        if name.startswith("_"):
+        if name.startswith("◌"):
             left = reader.pattern()
-            reader.next(name.strip("_"))
+            reader.next(name.strip("◌"))
             patterns = [left, *reader.patterns("=")]
         else:
             reader.next(name)

@@ -29,49 +29,49 @@ MEAN = "a * (1.0 / b)"       # what the teeth give: of the sum a of their taps i
 
 # a definition, and the same in Rust of its arguments a, b, c, .. in order; a record's fields in the definition's order
 LEAVES = (
-    ("lane.Lane.exp2Of", "exp2(a)"),
-    ("lane.Lane.pow10Of", "10f32.powf(a / b)"),
-    ("lane.Lane.expOf", "a.exp()"),
-    ("lane.Lane.tanOf", "tan(a)"),
-    ("lane.Lane.softClip", "soft_clip(a)"),
-    ("lane.Lane.saturationGain", "saturation_gain(a, b)"),
-    ("lines.Lines.maxDelaySeconds", "MAX_DELAY_SECONDS"),
-    ("lines.Lines.minDelay", "MIN_DELAY"),
-    ("lines.Lines.hermiteOf", "hermite(a, b, c, d, e)"),
-    ("points.Points.defaultPoint", "Point::default()"),
+    ("lane.Lane.exp2_of", "exp2(a)"),
+    ("lane.Lane.pow10_of", "10f32.powf(a / b)"),
+    ("lane.Lane.exp_of", "a.exp()"),
+    ("lane.Lane.tan_of", "tan(a)"),
+    ("lane.Lane.soft_clip", "soft_clip(a)"),
+    ("lane.Lane.saturation_gain", "saturation_gain(a, b)"),
+    ("lines.Lines.max_delay_seconds", "MAX_DELAY_SECONDS"),
+    ("lines.Lines.min_delay", "MIN_DELAY"),
+    ("lines.Lines.hermite_of", "hermite(a, b, c, d, e)"),
+    ("points.Points.default_point", "Point::default()"),
     ("points.Points.between", BETWEEN),
-    ("filter.Filter.ratioOf", "ratio_of(a, b)"),
-    ("filter.Filter.gainOf", "gain(a, b)"),
-    ("filter.Filter.svfOf", "let (band, low) = svf(&mut a, &mut b, c, d, e); [a, b, band, low]"),
-    ("filter.Filter.svfK", "svf_k(a, b, c)"),
-    ("filter.Filter.saturatedK", "saturated_k(a, b, c, d)"),
-    ("filter.Voice.defaultParams", "(VoiceParams::default(), 0.0)"),
-    ("extended.Extended.unitOr0", "unit(a)"),
-    ("extended.Extended.absOf", "abs(a)"),
-    ("extended.Extended.asymSlope", "ASYM_SLOPE"),
-    ("extended.Extended.asymOf", "asym(a)"),
-    ("sweeps.Sweeps.neutralPitch", "NEUTRAL_PITCH"),
-    ("sweeps.Sweeps.djK", "dj_k(a)"),
-    ("sweeps.Sweeps.diffuserK", "diffuser_k(a)"),
+    ("filter.Filter.ratio_of", "ratio_of(a, b)"),
+    ("filter.Filter.gain_of", "gain(a, b)"),
+    ("filter.Filter.svf_of", "let (band, low) = svf(&mut a, &mut b, c, d, e); [a, b, band, low]"),
+    ("filter.Filter.svf_k", "svf_k(a, b, c)"),
+    ("filter.Filter.saturated_k", "saturated_k(a, b, c, d)"),
+    ("filter.Voice.default_params", "(VoiceParams::default(), 0.0)"),
+    ("extended.Extended.unit_or0", "unit(a)"),
+    ("extended.Extended.abs_of", "abs(a)"),
+    ("extended.Extended.asym_slope", "ASYM_SLOPE"),
+    ("extended.Extended.asym_of", "asym(a)"),
+    ("sweeps.Sweeps.neutral_pitch", "NEUTRAL_PITCH"),
+    ("sweeps.Sweeps.dj_k", "dj_k(a)"),
+    ("sweeps.Sweeps.diffuser_k", "diffuser_k(a)"),
 )
 
 # the definitions that the functions below ask for
-TARGETS = "filter.Voice.voiceTargets"
-SMOOTH = "extended.Extended.smoothMark"
-LINES = "extended.Extended.linesMark"
-KERNEL = "kernels.Kernels.kernelOf"
-CONSTANTS = "run.Run.constantsOf"
-SIGN = "run.Run.signOf"
-TICK = "run.Run.tickWith"
+TARGETS = "filter.Voice.voice_targets"
+SMOOTH = "extended.Extended.smooth_mark"
+LINES = "extended.Extended.lines_mark"
+KERNEL = "kernels.Kernels.kernel_of"
+CONSTANTS = "run.Run.constants_of"
+SIGN = "run.Run.sign_of"
+TICK = "run.Run.tick_with"
 LAGGED = (18, 19)  # a slot's states with x and y after the lag
-LIMIT = "filter.Filter.ratioLimit"
-COUNT = "kernels.Kernels.overCount"
-BLEND = "poles.Poles.blendOf"
-POINT_SECTION = "points.Points.sectionOf"
+LIMIT = "filter.Filter.ratio_limit"
+COUNT = "kernels.Kernels.over_count"
+BLEND = "poles.Poles.blend_of"
+POINT_SECTION = "points.Points.section_of"
 VALUES = "points.Points.values"
-DEFAULT_STATE = "points.Points.defaultState"
-TABLE = "pole_zero.PoleZero.tableOf"
-DESIGN_SECTION = "pole_zero.PoleZero.sectionValues"
+DEFAULT_STATE = "points.Points.default_state"
+TABLE = "pole_zero.PoleZero.table_of"
+DESIGN_SECTION = "pole_zero.PoleZero.section_values"
 
 # parameters of KERNEL and TICK that are called otherwise here, and the fields of what they give: sample, states or record, ring
 PARAMETERS = {"p": "settings", "k": "constants", "st": "steering", "rec": "numbers"}
@@ -105,9 +105,9 @@ class Marks(tuple):
 
 # definitions compared by name alone: the Rust's side of each is a method of f32 or of Lines, in rust.py
 OPAQUE = {
-    "lane.Lane.maxOf": by_name("max"), "lane.Lane.minOf": by_name("min"), "lane.Lane.clampOf": by_name("clamp"),
-    "sqrt.Root.rootOf": by_name("root"), "log2.Log2.logOf": by_name("log2"),
-    "lines.Lines.ringRead": by_name("ringRead"), "lines.Lines.ringWrite": by_name("ringWrite"),
+    "lane.Lane.max_of": by_name("max"), "lane.Lane.min_of": by_name("min"), "lane.Lane.clamp_of": by_name("clamp"),
+    "sqrt.Root.root_of": by_name("root"), "log2.Log2.log_of": by_name("log2"),
+    "lines.Lines.ring_read": by_name("ring_read"), "lines.Lines.ring_write": by_name("ring_write"),
     "filter.Filter.once": lambda over: Marks((over,)),
 }
 
@@ -327,12 +327,12 @@ class Comparison:
         """What Comb2's text leaves, with the mean of its two taps exchanged for that of a chord's teeth."""
         def is_mean(tree):
             whole = tree.parts[0] if tree.name == "mul" else tree
-            return isinstance(whole, Tree) and whole.name == "add" and all(isinstance(p, Tree) and p.name == "ringRead" for p in whole.parts)
+            return isinstance(whole, Tree) and whole.name == "add" and all(isinstance(p, Tree) and p.name == "ring_read" for p in whole.parts)
         mean, = [tree for tree in parts_of(left) if tree.name == "mul" and is_mean(tree)]
         length, cursor, delay, ring = mean.parts[0].parts[0].parts  # of the first tap, whose delay is 1 / ratio
         offsets = teeth["offsets"][:teeth["count"]]
         delays = [self.rust.evaluate(TOOTH, {"a": delay.parts[1], "b": offset}) for offset in offsets]
-        taps = [Tree("ringRead", length, cursor, back, ring) for back in delays]
+        taps = [Tree("ring_read", length, cursor, back, ring) for back in delays]
         total = functools.reduce(lambda a, b: self.rust.evaluate("a + b", {"a": a, "b": b}), taps)
         return replaced(left, {mean: self.rust.evaluate(MEAN, {"a": total, "b": literal(len(taps))})})
 

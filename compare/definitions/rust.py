@@ -541,10 +541,10 @@ class Rust:
         """Lines::read of a whole ring, as an operation by name; lines.buf is one ring a slot here."""
         assert (line, count) == (0, 1)
         back = delay(self.call("ratio_of", io["pitch"], io["ref_over_rate"]), io["character"])
-        return Tree("ringRead", lines["len"], lines["cursor"], back, lines["buf"][lines["slot"]])
+        return Tree("ring_read", lines["len"], lines["cursor"], back, lines["buf"][lines["slot"]])
 
     def ring_write(self, lines, line, count, value):
         """Lines::write of a whole ring, as an operation by name."""
         assert (line, count) == (0, 1)
         ring = lines["buf"][lines["slot"]]
-        lines["buf"][lines["slot"]] = Tree("ringWrite", lines["len"], lines["cursor"], value, ring)
+        lines["buf"][lines["slot"]] = Tree("ring_write", lines["len"], lines["cursor"], value, ring)

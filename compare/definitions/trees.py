@@ -40,7 +40,7 @@ def literal(value):
 
 def is_nan(a):
     """Whether a float is NaN: known of the three forms of a float, else a condition to compare."""
-    return a.name == "nan" if a.name in ("nan", "inf", "fin") else Tree("isNan", a)
+    return a.name == "nan" if a.name in ("nan", "inf", "fin") else Tree("is_nan", a)
 
 
 def is_finite(a):
