@@ -20,7 +20,7 @@ TEXT
 
 case ${1-} in -h | --help) usage && exit 0 || exit 3 ;; esac
 [ $# -gt 0 ] || { usage >&2 && exit 2; }
-"$here/prove.sh" check impulse target/bin/impulse || exit 3
+"$here/prove.sh" impulse || exit 3
 answer=$(printf '%s\n' "$*" | "$here/target/bin/impulse") && [ -n "$answer" ] || exit 3
 printf '%s\n' "$answer" || exit 3
 case $answer in

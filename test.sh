@@ -1,6 +1,6 @@
 #!/usr/bin/env bash
-# The test command. The layout; the definitions against the published Rust's text, where that is at hand; the toolchain's gate over every
-# listed crate (proofs, must-fail edits, programs against stored answers); run.sh; then the linked library: the C header and example, and, where
+# The test command. The definitions against the published Rust's text, where that is at hand; the toolchain's gate over every listed crate
+# (layout, proofs, must-fail edits, programs against stored answers); run.sh; then the linked library: the C header and example, and, where
 # cargo is, the Rust wrapper, the comparison programs, and vector files replayed bit for bit.
 # The last line is 'N passed, M failed'.
 set -u
@@ -17,10 +17,9 @@ count() { # count WHAT COMMAND..: one test
     if "$@"; then passed=$((passed + 1)) && echo "ok: $what"; else failed=$((failed + 1)) && echo "FAILED: $what"; fi
 }
 impulse() { grep '^< ' "$1" | target/bin/impulse_cases | cmp - "$1"; } # impulse FILE: the answers to its inputs are those that it has
+# what rt ci said at its end: that all is well, and of how many edits its prover cannot read the text
+no_bad_edit() { grep -q '^rt: ok;' "$log" && ! grep -Eq '^rt: ok;.*, [0-9]+ bad' "$log"; }
 command -v rt >/dev/null || { failed=1 && echo "rt, the Rattle toolchain's command, is not on PATH"; finish; }
-
-count "layout (rt fmt --check)" rt fmt --check
-[ "$failed" -eq 0 ] || finish
 
 rust=../shared/docs/src/crates/dsp/src/filter
 if [ -d "$rust" ] && command -v python3 >/dev/null; then
@@ -31,15 +30,19 @@ fi
 
 log=$(mktemp)
 trap 'rm -f "$log"' EXIT
-# one job more than cores, since rt waits for a whole batch
-RT_JOBS=${RT_JOBS:-3} rt ci | tee "$log"
+rt ci | tee "$log"
+status=${PIPESTATUS[0]}
 read -r n _ m _ < <(tail -n 1 "$log")
 case "$n$m" in *[!0-9]* | '') n=0 m=1 ;; esac
+[ "$status" -eq 0 ] || [ "$m" -gt 0 ] || m=1
 passed=$((passed + n)) failed=$((failed + m))
 [ "$failed" -eq 0 ] || finish
+count "no must-fail edit is bad" no_bad_edit
+[ "$failed" -eq 0 ] || finish
 
+for program in impulse impulse_cases; do count "target/bin/$program" ./prove.sh "$program"; done
 count "run.sh and Impulse" tests/run.sh
-count "static library" ./prove.sh staticlib sentivolus target/staticlib/libsentivolus.a
+count "static library" ./prove.sh sentivolus after-ci
 if command -v cc >/dev/null && command -v c++ >/dev/null; then
     count "C header and example" c/test.sh
 else

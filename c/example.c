@@ -2,7 +2,7 @@
  * Half-way the bank is parked and goes on as restored, which changes no bit of the sound. At the end a block is auditioned, which leaves the bank.
  * With a file's name it also writes the sound there, as 16-bit WAV.
  *
- * Build and run, from the repository's root, once `rt staticlib sentivolus` has made the archive:
+ * Build and run, from the repository's root, once `./prove.sh sentivolus` has made the archive:
  *   cc -std=c99 -O2 c/example.c target/staticlib/libsentivolus.a -o target/example && target/example chord.wav
  */
 #include "sentivolus.h"

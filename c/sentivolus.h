@@ -1,6 +1,6 @@
 /* Sentivolus, the proved voice filter bank: its interface for C and C++.
  *
- * Link target/staticlib/libsentivolus.a (x86-64 Linux; `rt staticlib sentivolus` writes it). It needs memcpy and memset alone.
+ * Link target/staticlib/libsentivolus.a (x86-64 Linux; `./prove.sh sentivolus` writes it). It needs memcpy and memset alone.
  * example.c, beside this file, opens a bank, renders a chord, parks and restores it half-way, and auditions a block.
  *
  * 1. Numbers and names   2. Structs   3. The archive's symbols   4. The calls

@@ -1,6 +1,6 @@
 #!/usr/bin/env bash
 # test.sh: builds the example as C and as C++, every warning an error, and holds what it prints to example.txt; builds and runs test.c.
-# Needs cc, c++ and the archive (rt staticlib sentivolus).
+# Needs cc, c++ and the archive (prove.sh sentivolus).
 set -eu
 here=$(cd "$(dirname "$0")" && pwd)
 archive=$here/../target/staticlib/libsentivolus.a

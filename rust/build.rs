@@ -1,4 +1,4 @@
-// Links the archive that `rt staticlib sentivolus` writes. SENTIVOLUS_LIB names another folder that holds it; a relative one counts from the
+// Links the archive that `./prove.sh sentivolus` writes. SENTIVOLUS_LIB names another folder that holds it; a relative one counts from the
 // folder that cargo was called in, or from this package where that is not known.
 use std::path::PathBuf;
 
@@ -17,7 +17,7 @@ fn main() {
     println!("cargo:rerun-if-changed={}", archive.display());
     if !archive.is_file() {
         eprintln!("sentivolus: there is no archive {}", archive.display());
-        eprintln!("sentivolus: make it by `rt staticlib sentivolus` in the repository's root, or name its folder in SENTIVOLUS_LIB");
+        eprintln!("sentivolus: make it by `./prove.sh sentivolus` in the repository's root, or name its folder in SENTIVOLUS_LIB");
         std::process::exit(1);
     }
     println!("cargo:rustc-link-search=native={}", folder.display());

@@ -1,6 +1,6 @@
 #!/usr/bin/env bash
 # test.sh: the wrapper's tests and doc tests; its example, which prints what the C one does; how it finds the archive.
-# Needs cargo and the archive (rt staticlib sentivolus).
+# Needs cargo and the archive (prove.sh sentivolus).
 set -eu
 here=$(cd "$(dirname "$0")" && pwd)
 scratch=$(mktemp -d)
@@ -18,5 +18,5 @@ if built >/dev/null 2>"$scratch/said"; then
     echo "FAILED: built without an archive"
     exit 1
 fi
-grep -q 'rt staticlib sentivolus' "$scratch/said" || { echo "FAILED: a missing archive is not explained" && cat "$scratch/said" && exit 1; }
+grep -q 'prove.sh sentivolus' "$scratch/said" || { echo "FAILED: a missing archive is not explained" && cat "$scratch/said" && exit 1; }
 echo "rust: all as it should be"

@@ -1,6 +1,6 @@
 #!/usr/bin/env bash
 # run.sh and Impulse as a person meets them: usage, exit status, a failed write, a link, the first run's messages, an answer at the newline.
-# Needs target/bin/impulse (rt check impulse).
+# Needs target/bin/impulse (prove.sh impulse).
 set -u
 root=$(cd "$(dirname "$0")/.." && pwd)
 scratch=$(mktemp -d)
@@ -53,29 +53,39 @@ check "through a link" [ "$status $out" = "0 0 3f800000" ]
 tree=$scratch/tree
 mkdir -p "$tree/crates/base" "$tree/crates/impulse" "$scratch/bin"
 cp "$root/run.sh" "$root/prove.sh" "$tree/"
-printf 'base:\nimpulse: base io libc\nother: base\n' >"$tree/crates.txt"
+printf 'base:\nimpulse: base\nother: base\n' >"$tree/crates.txt"
 cat >"$scratch/bin/rt" <<'STANDIN'
 #!/bin/sh
-echo 'rt: base proved (1 s)'
-[ -z "${BROKEN-}" ] || { echo 'rt: impulse: not proved'; exit 1; }
-echo 'rt: impulse proved (2 s)'
-mkdir -p target/bin
-printf '#!/bin/sh\necho "0 3f800000"\n' >target/bin/impulse
-chmod +x target/bin/impulse
+[ "$*" = run ] || exit 2
+echo 'rt: chose --jobs 2 for base'
+echo 'logic=proved functions=1'
+echo 'rt: chose --jobs 2 for impulse'
+[ -z "${BROKEN-}" ] || { echo 'logic=not-proved' && exit 1; }
+echo 'logic=proved functions=2'
+mkdir -p out
+printf '#!/bin/sh\necho "0 3f800000"\n' >out/impulse
+chmod +x out/impulse
+exec out/impulse
 STANDIN
 chmod +x "$scratch/bin/rt"
 PATH=$scratch/bin:$PATH
 BROKEN=yes tried "$tree/run.sh" 2 48000 1
 check "a failed build's status" [ "$status$out" = 3 ]
-check "a failed build's reason" has "$err" "rt: impulse: not proved"
+check "a failed build's reason" has "$err" "logic=not-proved"
 tried "$tree/run.sh" 2 48000 1
 check "the first run renders" [ "$status $out" = "0 0 3f800000" ]
 said=$(head -n 1 "$scratch/err")
 check "it says at once what it does" has "$said" "target/bin/impulse is proved and built first, 2 crates"
-check "how long, and that it is once only" has "$said" "about six minutes on two cores, once only"
-check "one line a crate" [ "$(tail -n 2 "$scratch/err")" = " 1 of 2  base proved (1 s)"$'\n'" 2 of 2  impulse proved (2 s)" ]
+check "how long, and that it is once only" has "$said" "up to half an hour on two cores, once only"
+check "one line a crate" [ "$(tail -n 2 "$scratch/err")" = " 1 of 2  base proved"$'\n'" 2 of 2  impulse proved" ]
 tried "$tree/run.sh" 2 48000 1
 check "the second run says nothing" [ "$status$err" = 0 ]
+rm -r "$tree/target"
+tried "$tree/run.sh" 2 48000 1
+check "what was built of the same sources is taken" [ "$status$err" = 0 ]
+touch -d '+1 minute' "$tree/crates/base/a"
+tried "$tree/run.sh" 2 48000 1
+check "newer sources are proved" has "$err" " 2 of 2  impulse proved"
 
 # ---- Impulse answers at the newline, with the input still open, and leaves what follows to the next reader
 
