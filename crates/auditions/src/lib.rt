@@ -4,8 +4,8 @@
 ghost use Rattle.checks.specs.Checks.{bank_of, block_from};
 ghost use Rattle.auditions.specs.Audition.{AuditionDoes};
 
-use bank::Answer;
-use checks::{Setup, Verdict};
+use bank::Rendered;
+use checks::{Refusal, Setup};
 
 // Renders a block on a copy of the bank, which the scratch holds afterwards: answers the copy's new cursor and the frames rendered.
 pub fn audition(
@@ -24,14 +24,14 @@ pub fn audition(
     y: &[f32],
     audio: &mut [f32],
     counts: &mut [u32],
-) -> Answer
+) -> Result<Rendered, Refusal>
     ensures { AuditionDoes setup
         (block_from frames pitch.now steered x.now y.now audio.old counts.old)
         (bank_of scratch_targets.old scratch_records.old scratch_delay.old 0)
         (bank_of targets.now records.now delay.now cursor)
         result scratch_targets.new scratch_records.new scratch_delay.new audio.new counts.new }
 {
-    let checked = checks::audition_check(
+    checks::audition_check(
         setup,
         targets,
         records,
@@ -46,10 +46,7 @@ pub fn audition(
         y,
         audio,
         counts,
-    );
-    if let Verdict::Refused(n) = checked {
-        return Answer::Refused(n);
-    }
+    )?;
     slots::copy(targets, 0, scratch_targets, 0, targets.len());
     slots::copy(records, 0, scratch_records, 0, records.len());
     slots::copy(delay, 0, scratch_delay, 0, delay.len());

@@ -10,18 +10,17 @@ ghost use Rattle.checks.specs.Checks.{bank_of, block_from};
 ghost use Rattle.bank.specs.Bank.{SetDoes, StartDoes, OpenDoes, BlockDoes};
 ghost use Rattle.bank.specs.Promises.{Ready, Started};
 
-use checks::{Setup, Verdict};
+use checks::{Refusal, Setup};
 use filter::VoiceParams;
 use run::Structure;
-use slots::Prepared;
+use slots::{Modulation, Prepared};
 use voices::TARGETS_WIDTH;
 
-// A refusal's number; of set and start the cursor that they were given; of block the new cursor and the frames rendered.
+// What an accepted block answers: the new cursor, and the frames rendered.
 #[derive(Clone, Copy)]
-pub enum Answer {
-    Refused(u32),
-    Kept(usize),
-    Rendered(usize, usize),
+pub struct Rendered {
+    pub cursor: usize,
+    pub frames: usize,
 }
 
 // Writes one voice's targets.
@@ -44,12 +43,10 @@ fn start_voice(setup: Setup, targets: &[f32], records: &mut [f32], delay: &mut [
     let len = lines::ring_len(setup.rate);
     let slots = setup.channels * voices;
     let from = slots::start_of(voice, TARGETS_WIDTH, voices, targets.len());
-    let goals = slots::load_targets(targets, from);
-    let mut c: usize = 0;
-    while c < setup.channels {
+    let goals: [f32; 11] = slots::load(targets, from);
+    for c in 0..setup.channels {
         let slot = slots::place_at(c, voices, voice, setup.channels, slots);
         slots::start_slot(&goals, records, delay, slot, len);
-        c += 1;
     }
 }
 
@@ -59,18 +56,16 @@ fn open_voices(setup: Setup, targets: &mut [f32], records: &mut [f32], delay: &m
     ensures { bank_of targets.new records.new delay.new 0
         ≡ open_of (engine setup) setup.voices (bank_of targets.old records.old delay.old 0) }
 {
-    let mut v: usize = 0;
-    while v < setup.voices {
+    for v in 0..setup.voices {
         set_voice(targets, setup.voices, v, filter::default_params());
         start_voice(setup, targets, records, delay, v);
-        v += 1;
     }
 }
 
-// The answer of open, and the setup given back.
+// The answer of open, the cursor 0, and the setup given back.
 #[derive(Clone, Copy)]
 pub struct Opened {
-    pub answer: Answer,
+    pub answer: Result<usize, Refusal>,
     pub setup: Setup,
 }
 
@@ -79,30 +74,32 @@ pub fn open(setup: Setup, targets: &mut [f32], records: &mut [f32], delay: &mut 
     ensures { OpenDoes setup (bank_of targets.old records.old delay.old 0)
         result.answer result.setup targets.new records.new delay.new }
 {
-    let checked = checks::open_check(setup, targets, records, delay);
-    if let Verdict::Refused(n) = checked {
+    if let Err(refusal) = checks::open_check(setup, targets, records, delay) {
         return Opened {
-            answer: Answer::Refused(n),
-            setup: setup,
+            answer: Err(refusal),
+            setup,
         };
     }
     open_voices(setup, targets, records, delay);
     Opened {
-        answer: Answer::Kept(0),
-        setup: setup,
+        answer: Ok(0),
+        setup,
     }
 }
 
 // Writes one voice's targets, and answers the cursor.
-pub fn set(setup: Setup, cursor: usize, targets: &mut [f32], voice: usize, p: VoiceParams) -> Answer
+pub fn set(
+    setup: Setup,
+    cursor: usize,
+    targets: &mut [f32],
+    voice: usize,
+    p: VoiceParams,
+) -> Result<usize, Refusal>
     ensures { SetDoes setup cursor voice p targets.old result targets.new }
 {
-    let checked = checks::set_check(setup, targets, voice, p);
-    if let Verdict::Refused(n) = checked {
-        return Answer::Refused(n);
-    }
+    checks::set_check(setup, targets, voice, p)?;
     set_voice(targets, setup.voices, voice, p);
-    Answer::Kept(cursor)
+    Ok(cursor)
 }
 
 // Starts one voice, and answers the cursor.
@@ -113,16 +110,13 @@ pub fn start(
     records: &mut [f32],
     delay: &mut [f32],
     voice: usize,
-) -> Answer
+) -> Result<usize, Refusal>
     ensures { StartDoes setup cursor voice targets.now records.old delay.old
         result records.new delay.new }
 {
-    let checked = checks::start_check(setup, targets, records, delay, voice);
-    if let Verdict::Refused(n) = checked {
-        return Answer::Refused(n);
-    }
+    checks::start_check(setup, targets, records, delay, voice)?;
     start_voice(setup, targets, records, delay, voice);
-    Answer::Kept(cursor)
+    Ok(cursor)
 }
 
 // Renders a block: every slot, frame by frame, in place. C-11: counts, one number a slot, becomes how often a ratio was greater than its
@@ -140,18 +134,15 @@ pub fn block(
     y: &[f32],
     audio: &mut [f32],
     counts: &mut [u32],
-) -> Answer
+) -> Result<Rendered, Refusal>
     ensures { BlockDoes setup
         (block_from frames pitch.now steered x.now y.now audio.old counts.old)
         (bank_of targets.now records.old delay.old cursor)
         result records.new delay.new audio.new counts.new }
 {
-    let checked = checks::block_check(
+    checks::block_check(
         setup, targets, records, delay, frames, pitch, steered, x, y, audio, counts,
-    );
-    if let Verdict::Refused(n) = checked {
-        return Answer::Refused(n);
-    }
+    )?;
     let table = setup.table;
     let sections = table.sections;
     let chord = setup.chord;
@@ -166,17 +157,28 @@ pub fn block(
         rate: setup.rate,
         reference: setup.reference,
         clean: setup.clean,
-        chord: chord,
+        chord,
         voices: setup.voices,
         channels: setup.channels,
-        cursor: cursor,
-        frames: frames,
-        steered: steered,
+        cursor,
+        frames,
+        steered,
         slots: setup.channels * setup.voices,
         len: lines::ring_len(setup.rate),
     };
     pairs::run_block(
-        prepared, &sections, targets, records, delay, pitch, x, y, audio, counts,
+        prepared,
+        &sections,
+        targets,
+        records,
+        delay,
+        Modulation { pitch, x, y },
+        audio,
+        counts,
     );
-    Answer::Rendered(slots::cursor_after(setup.code, cursor, frames), frames)
+    let next = slots::cursor_after(setup.code, cursor, frames);
+    Ok(Rendered {
+        cursor: next,
+        frames,
+    })
 }

@@ -1,11 +1,11 @@
 -- For the proofs: nothing here must be believed.
 -- Laws of blocks: what was written is what is read, a written block is sound, a block in the making, and the words of a block of a file. Assumes nothing.
-use Rattle.std.specs.Prelude.{◌≡◌, refl, Bool, true, cond, ℕ, zero, suc, ◌+◌, ◌*◌, ◌%◌, ◌≤◌, ◌<◌, List, ◌∷◌, ◌++◌, length, get_or, drop}
-use Rattle.std.proofs.Common.{sym, ap, ◌∙◌, le_refl, arith, length-append, length-drop, lt-ltb, eq-eqb}
+use Rattle.std.specs.Prelude.{◌≡◌, refl, Bool, true, cond, ℕ, zero, suc, ◌+◌, ◌*◌, ◌%◌, ◌<◌, List, ◌∷◌, ◌++◌, length, get_or, drop}
+use Rattle.std.proofs.Common.{sym, ap, ◌∙◌, le_refl, arith, lt-ltb, eq-eqb}
 use Rattle.std.proofs.Math.Nat.{le_step}
 use Rattle.parts.specs.Parts.{flat, piece, patch}
 use Rattle.parts.specs.Laws.{piece_get}
-use Rattle.parts.specs.Flat.{flat_at, flat_next, flat_whole, length_flat}
+use Rattle.parts.specs.Flat.{flat_piece, flat_at, flat_next, flat_whole, length_flat}
 use Rattle.file_words.specs.Words.{word_bytes, word_of, word_at}
 use Rattle.file_words.specs.Laws.{length_word, word_is, word_of_bytes}
 use Rattle.blocks.specs.Blocks.{head_of, kind_of, who_of, part_of, sum_to, closing, body_word, block_word, block_bytes, sound_block, content_at}
@@ -84,18 +84,21 @@ pub started_none : (head : ℕ) (xs part : List ℕ) → part ≡ started head x
 unfolding started
 started_none head xs part = refl
 
-pub started_length : (head : ℕ) (xs part : List ℕ) (j : ℕ) → length part ≡ 512 → j ≤ 128 → length (started head xs j part) ≡ 512
-unfolding started
-started_length head xs part j l h =
-    length-append (flat (λ k. word_bytes (block_word head xs k)) j) (drop (j * 4) part)
-    ∙ omega (arith, length_flat 4 (λ k. word_bytes (block_word head xs k)) j (λ k u. length_word (block_word head xs k)), length-drop (j * 4) part)
-
 pub started_next : (head : ℕ) (xs part : List ℕ) (j w : ℕ) → length part ≡ 512 → j < 128 → w ≡ block_word head xs j
     → patch 4 j (word_bytes w) (started head xs j part) ≡ started head xs (suc j) part
 unfolding started
 started_next head xs part j w l h e =
     ap (λ (v : ℕ). patch 4 j (word_bytes v) (started head xs j part)) e
     ∙ flat_next 4 (λ k. word_bytes (block_word head xs k)) j part (λ k u. length_word (block_word head xs k)) (omega arith)
+
+-- the sum of its words, all but the last written
+pub started_sum : (head : ℕ) (xs part : List ℕ) → sum_to (word_at (started head xs 127 part)) 127 ≡ sum_to (body_word head xs) 127
+unfolding started word_at
+started_sum head xs part =
+    sum_same (word_at (started head xs 127 part)) (body_word head xs) 127
+    (λ k h. ap word_of (flat_piece 4 (λ j. word_bytes (block_word head xs j)) 127 k (drop 508 part) (λ j u. length_word (block_word head xs j)) h)
+    ∙ word_of_bytes (block_word head xs k)
+    ∙ body_word_lem head xs k h)
 
 pub started_whole : (head : ℕ) (xs part : List ℕ) → length part ≡ 512 → started head xs 128 part ≡ block_bytes head xs
 unfolding started block_bytes

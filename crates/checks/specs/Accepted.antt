@@ -1,17 +1,16 @@
 -- For the proofs: nothing here must be believed.
--- What a verdict of the code says of the check in the definition. Assumes nothing.
-use Rattle.std.specs.Prelude.{◌≡◌, ℕ}
+-- What an answer of the code says of the check in the definition. Assumes nothing.
+use Rattle.std.specs.Prelude.{◌≡◌, Ok, Err}
 use Rattle.std.proofs.Common.{sym, ap, ◌∙◌}
 use Rattle.voices.specs.Calls.{Check, fine, refused}
-use Rattle.checks.specs.declared.Verdict.{Verdict}
-use Rattle.checks.specs.declared.Verdict.TheVariants.{Fine, Refused}
-use Rattle.checks.specs.Checks.{check_of}
+use Rattle.checks.specs.declared.Refusal.{Refusal}
+use Rattle.checks.specs.Checks.{Checked, number_of, check_of}
 
--- a verdict of the code, said of the check in the definition
-pub refused_by_lem : {r : Verdict} {a : Check} {k : ℕ} → check_of r ≡ a → r ≡ Refused k → a ≡ refused k
+-- an answer of the code, said of the check in the definition
+pub refused_by_lem : {r : Checked} {a : Check} {e : Refusal} → check_of r ≡ a → r ≡ Err e → a ≡ refused (number_of e)
 unfolding check_of
-refused_by_lem e h = sym e ∙ ap check_of h
+refused_by_lem h is = sym h ∙ ap check_of is
 
-pub fine_by : {r : Verdict} {a : Check} → check_of r ≡ a → r ≡ Fine → a ≡ fine
+pub fine_by : {r : Checked} {a : Check} {t : Unit {0}} → check_of r ≡ a → r ≡ Ok t → a ≡ fine
 unfolding check_of
-fine_by e h = sym e ∙ ap check_of h
+fine_by h is = sym h ∙ ap check_of is

@@ -51,8 +51,8 @@ pub fn comb_with(first: f32, second: f32, p: Settings) -> Comb2
     ensures { result ≡ comb_with first second p }
 {
     Comb2 {
-        first: first,
-        second: second,
+        first,
+        second,
         path: feedback_path(p),
     }
 }
@@ -88,8 +88,7 @@ pub fn comb_step(c: Comb2, delay: &mut [f32], at: Ring, x: f32) -> f32
 {
     let first = view::read_through(delay, at.len, at.cursor, at.slot, c.first);
     let second = view::read_through(delay, at.len, at.cursor, at.slot, c.second);
-    let path = c.path;
-    comb_end(path, delay, at, (first + second) * 0.5, x)
+    comb_end(c.path, delay, at, (first + second) * 0.5, x)
 }
 
 // Reads the chord's teeth of the slot's ring together, by the plan, and writes the cursor's cell.

@@ -6,18 +6,13 @@ ghost use Rattle.std.specs.Prelude.{◌≡◌};
 ghost use Rattle.filter.specs.declared.Pitch.{Pitch};
 ghost use Rattle.filter.specs.Filter.{gain_of};
 ghost use Rattle.extended.specs.Extended.{ticked};
+ghost use Rattle.stages.specs.Stages.{ladder_states};
 ghost use Rattle.expanders.specs.Expanders.{expander_coefficients, expander_with, expander_solve, expander_taps, stages, band_mix, band_step};
 ghost use Rattle.expanders.specs.Expanders.{tap_weight, multimode_weights, multimode_mix, multimode_step};
 ghost use Rattle.expanders.specs.Expanders.{k35_coefficients, k35_with, k35_den, k35_low, k35_high, k35_feedback, k35_step};
 
 use extended::Settings;
-use stages::{Five, Stages};
-
-// The ladder's feedback at resonance 1.
-const LADDER_MAX: f32 = 4.1;
-
-// How much of the ladder's feedback raises its input.
-const LADDER_COMPENSATION: f32 = 0.5;
+use stages::{Five, LADDER_COMPENSATION, LADDER_MAX, Stages};
 
 // The expanders: four one-pole stages with feedback from the last, their output a mix of the ladder's input and its four stages.
 #[derive(Clone, Copy)]
@@ -34,9 +29,9 @@ pub fn expander_with(gg: f32, h: f32, gg4: f32, p: Settings) -> Expander
     ensures { result ≡ expander_with gg h gg4 p }
 {
     Expander {
-        gg: gg,
-        h: h,
-        gg4: gg4,
+        gg,
+        h,
+        gg4,
         base: p.resonance * LADDER_MAX,
         inv_knee: p.inv_knee,
     }
@@ -87,6 +82,16 @@ fn stages(taps: Five) -> Stages
     }
 }
 
+// The ladder's taps at x, and the states that they leave.
+fn tapped(c: Expander, state: &mut [f32; 20], x: f32) -> Five
+    ensures taps { result ≡ expander_taps c state.old x }
+    ensures states { state.new ≡ ladder_states state.old (stages (expander_taps c state.old x)) }
+{
+    let taps = expander_taps(c, state, x);
+    stages::store_ladder(state, stages(taps));
+    taps
+}
+
 fn band_mix(t: Five) -> f32
     ensures { result ≡ band_mix t }
 {
@@ -97,9 +102,7 @@ fn band_mix(t: Five) -> f32
 pub fn band_step(c: Expander, state: &mut [f32; 20], x: f32) -> f32
     ensures { ticked result state.new ≡ band_step c state.old x }
 {
-    let taps = expander_taps(c, state, x);
-    stages::store_ladder(state, stages(taps));
-    band_mix(taps)
+    band_mix(tapped(c, state, x))
 }
 
 fn tap_weight(a: f32, c: f32, low: f32, notch: f32, high: f32) -> f32
@@ -136,9 +139,7 @@ fn multimode_mix(w: Five, t: Five) -> f32
 pub fn multimode_step(c: Expander, w: Five, state: &mut [f32; 20], x: f32) -> f32
     ensures { ticked result state.new ≡ multimode_step c w state.old x }
 {
-    let taps = expander_taps(c, state, x);
-    stages::store_ladder(state, stages(taps));
-    multimode_mix(w, taps)
+    multimode_mix(w, tapped(c, state, x))
 }
 
 // The K35: a Sallen-Key low-pass and a high-pass, both running, with a saturator on the feedback amplifier; character picks one,
@@ -168,11 +169,11 @@ pub fn k35_with(gg: f32, h: f32, w: f32, p: Settings) -> K35
     ensures { result ≡ k35_with gg h w p }
 {
     K35 {
-        gg: gg,
-        h: h,
+        gg,
+        h,
         base: p.resonance * K35_MAX,
         inv_knee: p.inv_knee * K35_KNEE,
-        w: w,
+        w,
     }
 }
 

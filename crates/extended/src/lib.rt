@@ -45,12 +45,12 @@ pub fn settings_at(reference: Ratio, chord: Chord, params: &[f32; 11], x: f32, y
         resonance: params[RES],
         inv_knee: params[INV_KNEE],
         character: params[CHARACTER],
-        x: x,
-        y: y,
+        x,
+        y,
         z: params[MORPH_Z],
         ref_over_rate: reference,
         reference_ratio: reference,
-        chord: chord,
+        chord,
     }
 }
 
@@ -93,20 +93,12 @@ pub fn abs(x: f32) -> f32
 pub fn is_smooth(code: u32) -> bool
     ensures { result ≡ smooth_mark code }
 {
-    match code {
-        4..=6 => true,
-        8 => true,
-        _ => false,
-    }
+    matches!(code, 4..=6 | 8)
 }
 
 // Whether a structure runs on the delay lines.
 pub fn has_lines(code: u32) -> bool
     ensures { result ≡ lines_mark code }
 {
-    match code {
-        9 => true,
-        13 => true,
-        _ => false,
-    }
+    matches!(code, 9 | 13)
 }

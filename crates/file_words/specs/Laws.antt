@@ -1,14 +1,22 @@
 -- For the proofs: nothing here must be believed.
 -- Laws of words: what was written is what is read, other words stay, and an f32 comes back from its word. Assumes nothing.
-use Rattle.std.specs.Prelude.{◌≡◌, refl, ℕ, ◌+◌, ◌*◌, ◌<◌, List, T, length, get_or, Float}
-use Rattle.std.proofs.Common.{ap, ◌∙◌, arith}
+use Rattle.std.specs.Prelude.{◌≡◌, refl, ℕ, ◌+◌, ◌-◌, ◌*◌, ◌<◌, List, ◌++◌, T, length, get_or, take, drop, Float}
+use Rattle.std.proofs.Common.{sym, ap, ◌∙◌, append_assoc, drop-drop, arith}
 use Rattle.std.specs.Float.{nan, inf, fin, binary32}
 use Rattle.std.specs.Float.Ieee.{is_nan, fits, of_bits}
 use Rattle.std.specs.Float.Ieee.Bits.{of_bits-to_bits}
-use Rattle.parts.specs.Parts.{piece}
+use Rattle.parts.specs.Parts.{piece, patch}
 use Rattle.parts.specs.Laws.{piece_get}
 use Rattle.text.specs.Text.{bits_of}
 use Rattle.file_words.specs.Words.{word_bytes, word_of, word_at, float_of}
+
+-- a list whose piece b was lent, from b * m to b * m + m, and came back as ys
+pub lent : (m b : ℕ) (xs ys p : List ℕ) → p ≡ ys → take (b * m) xs ++ (p ++ drop (b * m + m - b * m) (drop (b * m) xs)) ≡ patch m b ys xs
+unfolding patch
+lent m b xs ys p e =
+    let k : b * m + m - b * m ≡ m = omega arith in
+    (λ i. take (b * m) xs ++ (e i ++ (ap (λ (j : ℕ). drop j (drop (b * m) xs)) k ∙ drop-drop m (b * m) xs) i))
+    ∙ sym (append_assoc (take (b * m) xs) ys (drop (b * m + m) xs))
 
 pub length_word : (w : ℕ) → length (word_bytes w) ≡ 4
 unfolding word_bytes

@@ -5,22 +5,13 @@ ghost use Rattle.std.specs.Prelude.{◌≡◌, ◌+◌, ◌*◌, ◌≤◌, leng
 ghost use Rattle.parts.specs.Parts.{patch};
 ghost use Rattle.file_words.specs.Words.{word_at, word_bytes};
 
-fn wide(b: u8) -> u32
-    ensures { (result ≡ b) × (result ≤ 255) }
-{
-    b as u32
-}
-
 // Word `i` of a file.
 pub fn get_word(file: &[u8], i: usize) -> u32
     requires { i * 4 + 4 ≤ length file.now }
     ensures { result ≡ word_at file.now i }
 {
     let at = i * 4;
-    wide(file[at])
-        + wide(file[at + 1]) * 256
-        + wide(file[at + 2]) * 65536
-        + wide(file[at + 3]) * 16777216
+    u32::from_le_bytes([file[at], file[at + 1], file[at + 2], file[at + 3]])
 }
 
 // Writes word `i`.
@@ -29,8 +20,5 @@ pub fn put_word(out: &mut [u8], i: usize, w: u32)
     ensures { out.new ≡ patch 4 i (word_bytes w) out.old }
 {
     let at = i * 4;
-    out[at] = (w % 256) as u8;
-    out[at + 1] = (w / 256 % 256) as u8;
-    out[at + 2] = (w / 65536 % 256) as u8;
-    out[at + 3] = (w / 16777216) as u8;
+    out[at..at + 4].copy_from_slice(&w.to_le_bytes());
 }

@@ -48,19 +48,21 @@ module _ (im : Image) (out : List ℕ) (room : length out ≡ blocks_of im * 512
       ∙ made_whole im out room
 
   -- the setup's second part is short
-  second_part : length im.setup ≡ 170 → take 44 (drop 126 im.setup) ≡ piece 126 1 im.setup
+  second_part : length im.setup ≡ 170 → drop 126 im.setup ≡ piece 126 1 im.setup
   unfolding piece
   second_part l =
       let e : length (drop 126 im.setup) ≡ 44 = length-drop 126 im.setup ∙ omega arith in
-      take_all 44 (drop 126 im.setup) (omega arith) ∙ sym (take_all 126 (drop 126 im.setup) (omega arith))
+      sym (take_all 126 (drop 126 im.setup) (omega arith))
 
-  pub all_blocks : (o1 o2 o3 o4 o5 : List ℕ) (h0 h1 : ℕ)
-      → h0 ≡ head_of 1 0 0 → o1 ≡ patch 512 0 (block_bytes h0 (piece 126 0 im.setup)) out
-      → h1 ≡ head_of 1 0 1 → o2 ≡ patch 512 1 (block_bytes h1 (take 44 (drop 126 im.setup))) o1
+  pub all_blocks : (o1 o2 o3 o4 o5 a b : List ℕ) (h0 h1 : ℕ) → length im.setup ≡ 170 → a ≡ take 126 im.setup → b ≡ drop 126 im.setup
+      → h0 ≡ head_of 1 0 0 → o1 ≡ patch 512 0 (block_bytes h0 a) out
+      → h1 ≡ head_of 1 0 1 → o2 ≡ patch 512 1 (block_bytes h1 b) o1
       → o3 ≡ rows_written 2 2 parked_targets targets_width 1 im.targets (im.v * 1) o2
       → o4 ≡ rows_written (2 + im.v) 3 parked_record record_width 1 im.records (im.s * 1) o3
       → o5 ≡ rows_written (2 + im.v + im.s) 4 im.L im.L im.p im.delay (im.s * im.p) o4
-      → length im.setup ≡ 170
       → o5 ≡ image_file im
-  all_blocks o1 o2 o3 o4 o5 h0 h1 e0 d1 e1 d2 d3 d4 d5 l =
-      ring_blocks o5 o4 (record_blocks o4 o3 (target_blocks o3 o2 (second_block o2 o1 h1 (first_block o1 h0 e0 d1) e1 (d2 ∙ ap (λ (x : List ℕ). patch 512 1 (block_bytes h1 x) o1) (second_part l))) d3) d4) d5
+  unfolding piece
+  all_blocks o1 o2 o3 o4 o5 a b h0 h1 l ea eb e0 d1 e1 d2 d3 d4 d5 =
+      let one : o1 ≡ made im 1 out = first_block o1 h0 e0 (d1 ∙ ap (λ (x : List ℕ). patch 512 0 (block_bytes h0 x) out) ea) in
+      let two : o2 ≡ made im 2 out = second_block o2 o1 h1 one e1 (d2 ∙ ap (λ (x : List ℕ). patch 512 1 (block_bytes h1 x) o1) (eb ∙ second_part l)) in
+      ring_blocks o5 o4 (record_blocks o4 o3 (target_blocks o3 o2 two d3) d4) d5

@@ -2,12 +2,13 @@
 #![tactic(auto)]
 
 ghost use Rattle.std.specs.Prelude.{◌≡◌};
-ghost use Rattle.std.specs.Float.Ieee.{is_nan};
 ghost use Rattle.filter.specs.Filter.{octaves_of, ratio_of, over_of, once, gain_at, gain_of};
 ghost use Rattle.filter.specs.Judged.{capped_at, capped_of, judged_gain};
 ghost use Rattle.filter.specs.Filter.{svf_of, svf_k, saturated_k};
 ghost use Rattle.filter.specs.Voice.{default_params, unit_or_nan, drive_gain, inverse_knee, finite_or0, level_of, morph_of, targets_of, morph_targets_of};
 ghost use Rattle.filter.specs.Voice.{voice_targets, nan_knob};
+
+use std::f32::consts::PI;
 
 // A pitch counts semitones.
 #[derive(Clone, Copy)]
@@ -16,8 +17,6 @@ pub struct Pitch(pub f32);
 // A ratio counts cycles per sample.
 #[derive(Clone, Copy)]
 pub struct Ratio(pub f32);
-
-const PI: f32 = 3.14159265358979323846264338327950288;
 
 // How far past zero damping the resonance law goes at resonance 1, as a fraction of its damping at resonance 0.
 const SVF_OVERSHOOT: f32 = 0.02;
@@ -54,7 +53,7 @@ pub fn capped_at(octaves: f32, reference: Ratio) -> Capped
 pub fn once(over: bool) -> u32
     ensures { result ≡ once over }
 {
-    if over { 1 } else { 0 }
+    u32::from(over)
 }
 
 // A pitch's ratio, and whether it was greater than the cap.
@@ -132,8 +131,8 @@ pub fn svf(ic1: f32, ic2: f32, x: f32, g: f32, k: f32) -> Stage
     Stage {
         ic1: band + band - ic1,
         ic2: low + low - ic2,
-        band: band,
-        low: low,
+        band,
+        low,
     }
 }
 
@@ -199,28 +198,16 @@ fn unit_or_nan(v: f32) -> f32
     lane::clamp(v, 0.0, 1.0)
 }
 
-fn is_nan(v: f32) -> bool
-    ensures { result ≡ is_nan v }
-{
-    v != v
-}
-
 fn morph(v: f32) -> f32
     ensures { result ≡ morph_of v }
 {
-    if is_nan(v) { 0.0 } else { unit_or_nan(v) }
+    if v.is_nan() { 0.0 } else { unit_or_nan(v) }
 }
 
 fn finite_or_0(v: f32) -> f32
     ensures { result ≡ finite_or0 v }
 {
-    let infinity = 1.0 / 0.0;
-    if -infinity < v {
-        if v < infinity {
-            return v;
-        }
-    }
-    0.0
+    if v.is_finite() { v } else { 0.0 }
 }
 
 fn level(v: f32) -> f32
@@ -281,9 +268,9 @@ pub fn voice_targets(p: VoiceParams) -> [f32; 11]
 pub fn nan_knob(p: VoiceParams) -> bool
     ensures { result ≡ nan_knob p }
 {
-    is_nan(p.resonance)
-        | is_nan(p.drive)
-        | is_nan(p.saturation)
-        | is_nan(p.character)
-        | is_nan(p.mix)
+    p.resonance.is_nan()
+        || p.drive.is_nan()
+        || p.saturation.is_nan()
+        || p.character.is_nan()
+        || p.mix.is_nan()
 }

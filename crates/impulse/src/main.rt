@@ -12,21 +12,15 @@ ghost use Rattle.impulse.specs.Line.{Takes};
 use std::io;
 use std::io::{Read, Write};
 
-#[derive(Drop)]
-enum Next {
-    Byte(u8),
-    End,
-}
-
-// The next byte of the input, or its end.
-fn next_byte<R: Read>(input: &mut R) -> io::Result<Next>
+// The next byte of the input; none at its end.
+fn next_byte<R: Read>(input: &mut R) -> io::Result<Option<u8>>
     ensures { IfOk result (Takes (R.remaining input.old) (R.remaining input.new)) }
 {
     let mut one = [0u8; 1];
     if input.read(&mut one)? == 0 {
-        return Ok(Next::End);
+        return Ok(None);
     }
-    Ok(Next::Byte(one[0]))
+    Ok(Some(one[0]))
 }
 
 // Reads a line into `buf`, up to its newline, the input's end or the end of `buf`, and answers the number of its bytes. Byte by byte, so
@@ -37,18 +31,16 @@ fn read_line<R: Read>(input: &mut R, buf: &mut [u8]) -> io::Result<usize>
         (λ xs. take n buf.new ≡ take (length buf.new) (take_through 10 xs))) }
     ensures no_more { IfOk result (λ n. Consumes (R.remaining input.old) (R.remaining input.new) (take n buf.new)) }
 {
-    let mut n = 0;
-    while n < buf.len() {
-        let Next::Byte(b) = next_byte(input)? else {
+    for n in 0..buf.len() {
+        let Some(b) = next_byte(input)? else {
             return Ok(n);
         };
         buf[n] = b;
-        n += 1;
         if b == b'\n' {
-            return Ok(n);
+            return Ok(n + 1);
         }
     }
-    Ok(n)
+    Ok(buf.len())
 }
 
 // Reads a line and writes its answer, which is the whole input's.

@@ -1,20 +1,21 @@
 -- Laws of the rendering: an accepted open and block leave the audio that the definitions give, and parts of the program's lists are the lists
 -- that it feeds. Assumes nothing.
-use Rattle.std.proofs.Common.{◌≡◌, ℕ, zero, suc, ◌+◌, ◌-◌, ◌*◌, ◌<◌, ◌≤◌, false, List, ◌∷◌, ◌++◌, length, take, set, replicate, pos, sym, refl, ap, ◌∙◌, subst, le_of_suc-le-suc, arith, length-append, length-take, take_all, eq-eqb, le-leb, []}
+use Rattle.std.proofs.Common.{◌≡◌, ℕ, zero, suc, ◌-◌, ◌*◌, ◌<◌, ◌≤◌, false, List, ◌∷◌, ◌++◌, length, take, set, replicate, pos, sym, refl, ap, ◌∙◌, subst, le_of_suc-le-suc, arith, length-append, length-take, take_all, eq-eqb, le-leb, []}
+use Rattle.std.specs.Prelude.{Result}
 use lib.ListN.{length-replicate}
 use lib.Seq.{take-append-le}
 use lib.Ieee.{Float, binary32, of_bits, of_int, round}
 use Rattle.lane.specs.Floats.{zero as silent, one}
 use Rattle.lines.specs.Lines.{ring_len}
 use Rattle.setups.specs.Setup.{setup_check_of}
-use Rattle.voices.specs.Calls.{targets_width, record_width, fine, check, ◌then◌, Bank, Block, call_block, kept, Run, open_of, block_of, open_verdict, verdict, accepted}
+use Rattle.voices.specs.Calls.{targets_width, record_width, fine, check, ◌then◌, Bank, Block, call_block, Answer, Run, open_of, block_of, open_verdict, verdict, accepted}
 use Rattle.voices.specs.Accepted.{Lengths}
 use Rattle.checks.specs.declared.Setup.{Setup}
 use Rattle.checks.specs.Setup.{solo_of, engine}
 use Rattle.checks.specs.Checks.{bank_of, block_from}
-use Rattle.bank.specs.declared.Answer.{Answer as CodeAnswer}
-use Rattle.bank.specs.declared.Answer.TheVariants.{Refused, Kept, Rendered}
-use Rattle.bank.specs.Bank.{answer_of, cursor_of, before, after, open_by, OpenDoes, BlockDoes}
+use Rattle.checks.specs.declared.Refusal.{Refusal}
+use Rattle.bank.specs.declared.Rendered.{Rendered}
+use Rattle.bank.specs.Bank.{answer_of, block_answer, cursor_of, before, after, open_by, OpenDoes, BlockDoes}
 use Rattle.bank.specs.Answers.{newest, rendered_is}
 use Rattle.impulses.specs.Impulse.{rate_of, impulse_setup, steady_pitch, silence, impulse_of, rendered_of, response_of}
 use Rattle.impulses.specs.Cells.{ring_fits}
@@ -39,24 +40,17 @@ module _ (s : Setup) (ok : setup_check_of (solo_of s) s.voices ≡ fine) (b : Ba
   block_fine q lo hi st p x y a m =
       rw (ok, eq-eqb _ _ l.targets, eq-eqb _ _ l.records, eq-eqb _ _ l.delay, le-leb 1 q.frames lo, le-leb q.frames 4096 hi, st, eq-eqb _ _ p, eq-eqb _ _ x, eq-eqb _ _ y, eq-eqb _ _ a, eq-eqb _ _ m)
 
--- an answer `kept 0` leaves cursor 0
-kept_zero : (r : CodeAnswer) → answer_of r [] [] ≡ kept 0 → cursor_of r 0 ≡ 0
-unfolding answer_of cursor_of
-kept_zero (Refused k) e = cc
-kept_zero (Kept cur) e = cc
-kept_zero (Rendered cur f) e = cc
-
-module _ (s : Setup) (tg₀ rs₀ ds₀ : List Float) (r : CodeAnswer) (s' : Setup) (tg rs ds : List Float) where
+module _ (s : Setup) (tg₀ rs₀ ds₀ : List Float) (r : Result ℕ Refusal) (s' : Setup) (tg rs ds : List Float) where
   pub opened_bank : open_verdict (engine s) s.voices (bank_of tg₀ rs₀ ds₀ 0) ≡ fine → OpenDoes s (bank_of tg₀ rs₀ ds₀ 0) r s' tg rs ds → bank_of tg rs ds 0 ≡ open_of (engine s) s.voices (bank_of tg₀ rs₀ ds₀ 0)
   opened_bank ok d =
-      let e : after r 0 tg rs ds [] [] ≡ open_by fine s (bank_of tg₀ rs₀ ds₀ 0) = rw ok at d.does in
-      let k : cursor_of r 0 ≡ 0 = kept_zero r (ap newest e) in
+      let e : after (answer_of r) 0 tg rs ds ≡ open_by fine s (bank_of tg₀ rs₀ ds₀ 0) = rw ok at d.does in
+      let k : cursor_of (answer_of r) 0 ≡ 0 = ap (λ (a : Answer). cursor_of a 0) (ap newest e) in
       ap (λ (n : ℕ). bank_of tg rs ds n) (sym k) ∙ ap (λ (w : Run). w.bank) e
 
-pub block_audio : (s : Setup) (q : Block) (b : Bank) (r : CodeAnswer) (rs ds audio : List Float) (counts : List ℕ)
+pub block_audio : (s : Setup) (q : Block) (b : Bank) (r : Result Rendered Refusal) (rs ds audio : List Float) (counts : List ℕ)
     → verdict (engine s) s.voices (call_block q) b ≡ fine → BlockDoes s q b r rs ds audio counts → audio ≡ (block_of (engine s) s.voices q b).audio
 block_audio s q b r rs ds audio counts ok d =
-    let e : after r b.cursor b.targets rs ds audio counts ≡ accepted (engine s) s.voices (call_block q) (before b) = rw ok at d.does in
+    let e : after (block_answer r audio counts) b.cursor b.targets rs ds ≡ accepted (engine s) s.voices (call_block q) (before b) = rw ok at d.does in
     (rendered_is r _ _ audio _ counts _ (ap newest e)).1
 
 -- the two calls on lists of zeros, at a setup of the program
@@ -65,7 +59,7 @@ module _ (code rate : ℕ) (ds₀ pitch audio : List Float) (a : Accepted code r
   unfolding impulse_setup
   open_lengths = record { targets = silence_length targets_width; records = silence_length record_width; delay = omega arith }
 
-  pub rendering_is : (tg rs ds rs' ds' left : List Float) (over : List ℕ) (r r' : CodeAnswer) (s' : Setup)
+  pub rendering_is : (tg rs ds rs' ds' left : List Float) (over : List ℕ) (r : Result ℕ Refusal) (r' : Result Rendered Refusal) (s' : Setup)
       → length tg ≡ targets_width → length rs ≡ record_width → length ds ≡ length ds₀
       → OpenDoes (impulse_setup code rate) (bank_of (silence targets_width) (silence record_width) ds₀ 0) r s' tg rs ds
       → BlockDoes (impulse_setup code rate) (block_from (length audio) pitch false [] [] audio (0 ∷ [])) (bank_of tg rs ds 0) r' rs' ds' left over
@@ -112,10 +106,10 @@ pub pitches : (n : ℕ) → replicate n (of_bits binary32 1116340224) ≡ steady
 unfolding steady_pitch of_bits round
 pitches n = refl
 
-pub impulse_made : (n : ℕ) → 0 < n → set (replicate n (of_bits binary32 0)) 0 (of_bits binary32 1065353216) ≡ impulse_of n
+pub impulse_made : (n : ℕ) (xs : List Float) → 0 < n → xs ≡ silence n → set xs 0 (of_bits binary32 1065353216) ≡ impulse_of n
 unfolding silence impulse_of of_bits round
-impulse_made zero h = absurd (omega arith)
-impulse_made (suc n) h = let e : n ≡ suc n - 1 = omega arith in ap (λ (i : ℕ). one ∷ replicate i silent) e
+impulse_made zero xs h e = absurd (omega arith)
+impulse_made (suc n) xs h e = let i : n ≡ suc n - 1 = omega arith in rw e (ap (λ (i : ℕ). one ∷ replicate i silent) i)
 
 -- ---- a part that is lent, and a list that comes back with what stood after the part
 

@@ -1,17 +1,17 @@
 -- Laws of the verdict: what the setup's checks come to at a rate, and what a verdict without refusal knows. Assumes nothing.
-use Rattle.std.proofs.Common.{◌≡◌, ℕ, ◌<◌, ◌≤◌, Bool, true, false, cond, ◌&&◌, eqb, ltb, leb, pos, sym, refl, ap, ◌∙◌, ltb-false, le-leb, leb-true}
+use Rattle.std.proofs.Common.{◌≡◌, ℕ, ◌≤◌, Bool, true, false, cond, ◌&&◌, eqb, ltb, leb, pos, sym, refl, ap, ◌∙◌, ltb-false, leb-true}
 use mathlib.Core.Bool.{and-false}
 use lib.Ieee.{Float, binary32, of_int, round, is_nan, lt}
-use borrow.Author.Tests.{lt-leb, not-true}
+use borrow.Author.Tests.{not-true}
 use Rattle.lane.specs.Floats.{whole}
 use Rattle.lines.specs.Lines.{rate_refused}
 use Rattle.setups.specs.Setup.{reference_refused, within, codes_check_of, offset_refused, chord_refused, setup_check_of}
 use Rattle.voices.specs.Calls.{Check, fine, refused, check, ◌then◌}
 use Rattle.voices.specs.Accepted.{check_fine, then_fine, and-true}
 use Rattle.checks.specs.Setup.{solo_of}
-use Rattle.impulses.specs.declared.Verdict.{Verdict}
-use Rattle.impulses.specs.declared.Verdict.TheVariants.{Fine, Large, Refused}
-use Rattle.impulses.specs.Impulse.{rate_of, one_tooth, impulse_setup, after_setup, checked, verdict_of}
+use Rattle.std.proofs.Common.{Ok, Err}
+use Rattle.impulses.specs.declared.Reason.TheVariants.{Large, Refused}
+use Rattle.impulses.specs.Impulse.{Verdict, rate_of, one_tooth, impulse_setup, after_setup, checked, verdict_of}
 
 -- the code's cast is the nearest f32
 pub rate_is : (n : ℕ) → of_int binary32 (pos n) ≡ rate_of n
@@ -32,7 +32,7 @@ unfolding chord_refused offset_refused is_nan lt round
 tooth code = and-false (eqb code 13)
 
 module _ (code rate frames : ℕ) where
-  pub rate_refused_lem : rate_refused (rate_of rate) ≡ true → Refused 1 ≡ verdict_of code rate frames
+  pub rate_refused_lem : rate_refused (rate_of rate) ≡ true → Err (Refused 1) ≡ verdict_of code rate frames
   unfolding verdict_of impulse_setup setup_check_of codes_check_of check ◌then◌
   rate_refused_lem h = rw h
 
@@ -44,17 +44,13 @@ module _ (code rate frames : ℕ) where
   unfolding verdict_of
   coded t h e = rw (setup_check_lem h, e)
 
-  pub code_accepted : rate_refused (rate_of rate) ≡ false → 1 ≤ code → code ≤ 13 → after_setup rate frames ≡ verdict_of code rate frames
+  pub code_accepted : rate_refused (rate_of rate) ≡ false → within 1 13 code ≡ true → after_setup rate frames ≡ verdict_of code rate frames
   unfolding check ◌then◌
-  code_accepted h a b = coded true h (rw (le-leb 1 code a, le-leb code 13 b))
+  code_accepted h e = coded true h e
 
-  pub code_low : rate_refused (rate_of rate) ≡ false → code < 1 → Refused 5 ≡ verdict_of code rate frames
+  pub code_refused : rate_refused (rate_of rate) ≡ false → within 1 13 code ≡ false → Err (Refused 5) ≡ verdict_of code rate frames
   unfolding check ◌then◌
-  code_low h a = coded false h (rw (lt-leb 1 code a))
-
-  pub code_high : rate_refused (rate_of rate) ≡ false → 1 ≤ code → 13 < code → Refused 5 ≡ verdict_of code rate frames
-  unfolding check ◌then◌
-  code_high h a b = coded false h (rw (le-leb 1 code a, lt-leb code 13 b))
+  code_refused h e = coded false h e
 
   pub record Accepted : Type 0 where
     pub setup : setup_check_of (solo_of (impulse_setup code rate)) 1 ≡ fine
@@ -63,16 +59,16 @@ module _ (code rate frames : ℕ) where
     pub some_frame : 1 ≤ frames
     pub most : frames ≤ 4096
 
-checked_fine : (w : Check) (v : Verdict) → checked w v ≡ Fine → (w ≡ fine) × (v ≡ Fine)
+checked_fine : (w : Check) (v : Verdict) → checked w v ≡ Ok tt → (w ≡ fine) × (v ≡ Ok tt)
 checked_fine fine v e = (refl, e)
 checked_fine (refused k) v e = ((cc), (cc))
 
-after_fine : (a b : Bool) → cond a Large (cond b Fine (Refused 9)) ≡ Fine → (a ≡ false) × (b ≡ true)
+after_fine : (a b : Bool) → ◌≡◌ {A = Verdict} (cond a (Err Large) (cond b (Ok tt) (Err (Refused 9)))) (Ok tt) → (a ≡ false) × (b ≡ true)
 after_fine true b e = ((cc), (cc))
 after_fine false true e = (refl, refl)
 after_fine false false e = ((cc), (cc))
 
-pub accepted : (code rate frames : ℕ) → verdict_of code rate frames ≡ Fine → Accepted code rate frames
+pub accepted : (code rate frames : ℕ) → verdict_of code rate frames ≡ Ok tt → Accepted code rate frames
 unfolding verdict_of after_setup impulse_setup setup_check_of codes_check_of
 accepted code rate frames e =
     let a = checked_fine (setup_check_of (solo_of (impulse_setup code rate)) 1) (after_setup rate frames) e in

@@ -1,8 +1,8 @@
 -- Laws of the text printed: bytes that follow each other, and one turn of the samples' loop. Assumes nothing.
-use Rattle.std.proofs.Common.{◌≡◌, ℕ, ◌+◌, ◌<◌, ◌≤◌, Bool, true, false, ltb, List, ◌∷◌, ◌++◌, length, get_or, drop, set, sym, refl, ap, ◌∙◌, add-one, arith, length-set, drop_of_length-le, drop-cons, ltb-true, []}
+use Rattle.std.proofs.Common.{◌≡◌, ℕ, ◌+◌, ◌<◌, ◌≤◌, Bool, true, false, ltb, List, ◌∷◌, ◌++◌, length, get_or, drop, set, refl, ap, ◌∙◌, add-one, arith, length-set, drop_of_length-le, drop-cons, ltb-true, []}
 use lib.Ieee.{Float, nan}
-use Rattle.text.specs.Text.{Buffer, buffer, room, put, puts, bits_of, decimal_text, hex_text}
-use Rattle.impulses.specs.Impulse.{sample_text, samples_text, refused_text}
+use Rattle.text.specs.Text.{Buffer, buffer, room, put, puts}
+use Rattle.impulses.specs.Impulse.{sample_text, samples_text}
 
 pub puts_append : (s t : List ℕ) (p : Buffer) → puts (s ++ t) p ≡ puts t (puts s p)
 unfolding puts
@@ -57,24 +57,3 @@ module _ (s out : List ℕ) (r : ℕ) (p : Buffer) (e : buffer out r ≡ puts s 
   puts_within h =
       let a : r ≡ (puts s p).at = ap (λ (q : Buffer). q.at) e in
       omega (arith, puts_in s p h, puts_length)
-
--- ---- what is written piece by piece
-
-puts_byte : (b : ℕ) (s : List ℕ) (p : Buffer) → puts (b ∷ s) p ≡ puts s (put b p)
-unfolding puts
-puts_byte b s p = refl
-
-puts_last : (b : ℕ) (p : Buffer) → puts (b ∷ []) p ≡ put b p
-unfolding puts
-puts_last b p = refl
-
-module _ (p q r : Buffer) where
-  pub refused_written : (n : ℕ) (t : Buffer) → q ≡ puts (114 ∷ 101 ∷ 102 ∷ 117 ∷ 115 ∷ 101 ∷ 100 ∷ 32 ∷ []) p → r ≡ puts (decimal_text n) q → t ≡ put 10 r → t ≡ puts (refused_text n) p
-  unfolding refused_text
-  refused_written n t a b c =
-      let e : puts (refused_text n) p ≡ puts (decimal_text n ++ 10 ∷ []) (puts (114 ∷ 101 ∷ 102 ∷ 117 ∷ 115 ∷ 101 ∷ 100 ∷ 32 ∷ []) p) = puts_append (114 ∷ 101 ∷ 102 ∷ 117 ∷ 115 ∷ 101 ∷ 100 ∷ 32 ∷ []) (decimal_text n ++ 10 ∷ []) p in
-      sym (e ∙ rw (puts_append, puts_last, ← a, ← b, ← c))
-
-  pub sample_written : (frame n : ℕ) (x : Float) (t u : Buffer) → n ≡ bits_of x → q ≡ puts (decimal_text frame) p → r ≡ put 32 q → t ≡ puts (hex_text n) r → u ≡ put 10 t → u ≡ puts (sample_text frame x) p
-  unfolding sample_text
-  sample_written frame n x t u e a b c d = sym (rw (puts_append, puts_append, puts_last, puts_byte, ← e, ← a, ← b, ← c, ← d))

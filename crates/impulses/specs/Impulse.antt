@@ -1,6 +1,6 @@
 -- Impulse (document 01, 'Checked figures'): which request a line makes, what is answered, and the text printed, as lists of bytes. 32 is the
 -- blank, 10 the newline. Definitions only. Assumes nothing.
-use Rattle.std.specs.Prelude.{◌≡◌, ℕ, ◌+◌, ◌-◌, ◌≤◌, false, cond, ◌&&◌, List, [], ◌∷◌, ◌++◌, length, take, replicate, ◌==◌, nat_le, nat_lt, Float}
+use Rattle.std.specs.Prelude.{◌≡◌, ℕ, ◌+◌, ◌-◌, ◌≤◌, false, cond, ◌&&◌, List, [], ◌∷◌, ◌++◌, length, take, replicate, ◌==◌, nat_le, nat_lt, Option, None, Some, Result, Ok, Err, Float}
 use Rattle.lane.specs.Floats.{whole, zero, one}
 use Rattle.lines.specs.Lines.{ring_len}
 use Rattle.extended.specs.declared.Chord.{Chord}
@@ -11,45 +11,36 @@ use Rattle.checks.specs.declared.Setup.{Setup}
 use Rattle.checks.specs.Setup.{solo_of, engine}
 use Rattle.checks.specs.Checks.{bank_of, block_from}
 use Rattle.text.specs.declared.Span.{Span}
-use Rattle.text.specs.declared.Number.{Number}
-use Rattle.text.specs.declared.Number.TheVariants.{Value as Number-as-Value, Refused as Number-as-Refused}
 use Rattle.text.specs.Text.{word_at, line_end, bytes_of, decimal_of, bits_of, buffer, puts, decimal_text, hex_text}
-use Rattle.impulses.specs.declared.Decimal.{Decimal}
-use Rattle.impulses.specs.declared.Decimal.TheVariants.{Value, Malformed}
-use Rattle.impulses.specs.declared.Request.{Request}
-use Rattle.impulses.specs.declared.Request.TheVariants.{Line, Asked}
-use Rattle.impulses.specs.declared.Verdict.{Verdict}
-use Rattle.impulses.specs.declared.Verdict.TheVariants.{Fine, Large, Refused}
+use Rattle.impulses.specs.declared.Asked.{Asked}
+use Rattle.impulses.specs.declared.Reason.{Reason}
+use Rattle.impulses.specs.declared.Reason.TheVariants.{Large, Refused}
 
 -- ---- "a line that is not three unsigned decimals of 1 to 9 digits, one blank between, prints `line`"
 
 abbrev pub most_digits : ℕ
 most_digits = 9
 
-abbrev pub narrow : Number → Decimal
-narrow (Number-as-Value v) = Value v
-narrow Number-as-Refused = Malformed
-
 -- a word of 1 to 9 digits (a decimal has one at least)
-unfoldable pub short_decimal : List ℕ → Span → Decimal
-short_decimal s w = cond (nat_le (w.end - w.start) most_digits) (narrow (decimal_of (bytes_of s w))) Malformed
+unfoldable pub short_decimal : List ℕ → Span → Option ℕ
+short_decimal s w = cond (nat_le (w.end - w.start) most_digits) (decimal_of (bytes_of s w)) None
 
-unfoldable pub asked : Decimal → Decimal → Decimal → Request
-asked (Value code) (Value rate) (Value frames) = Asked code rate frames
-asked (Value code) (Value rate) Malformed = Line
-asked (Value code) Malformed frames = Line
-asked Malformed rate frames = Line
+unfoldable pub asked : Option ℕ → Option ℕ → Option ℕ → Option Asked
+asked (Some code) (Some rate) (Some frames) = Some (record { code = code; rate = rate; frames = frames })
+asked (Some code) (Some rate) None = None
+asked (Some code) None frames = None
+asked None rate frames = None
 
 -- a line's first and second word end at a blank, its third ends the line
-unfoldable pub line_request : List ℕ → Request
+unfoldable pub line_request : List ℕ → Option Asked
 line_request l =
     let a = word_at l 0 in
     let b = word_at l (a.end + 1) in
     let c = word_at l (b.end + 1) in
-    cond (nat_lt a.end (length l) && nat_lt b.end (length l) && c.end == length l) (asked (short_decimal l a) (short_decimal l b) (short_decimal l c)) Line
+    cond (nat_lt a.end (length l) && nat_lt b.end (length l) && c.end == length l) (asked (short_decimal l a) (short_decimal l b) (short_decimal l c)) None
 
 -- "The line ends at its newline or at the input's end; later bytes are ignored."
-unfoldable pub request_of : List ℕ → Request
+unfoldable pub request_of : List ℕ → Option Asked
 request_of s = line_request (take (line_end s 0) s)
 
 -- ---- "opens one mono voice, reference 440, not clean, all-bypass table"
@@ -83,12 +74,16 @@ cells = 16384
 abbrev pub highest_rate : ℕ
 highest_rate = 131015
 
+-- why no frame is rendered, or that all are
+abbrev pub Verdict : Type 0
+Verdict = Result (Unit {0}) Reason
+
 unfoldable pub after_setup : (rate frames : ℕ) → Verdict
-after_setup rate frames = cond (nat_lt highest_rate rate) Large (cond (within least_frames most_frames frames) Fine (Refused 9))
+after_setup rate frames = cond (nat_lt highest_rate rate) (Err Large) (cond (within least_frames most_frames frames) (Ok tt) (Err (Refused 9)))
 
 abbrev pub checked : Check → Verdict → Verdict
 checked fine v = v
-checked (refused k) v = Refused k
+checked (refused k) v = Err (Refused k)
 
 unfoldable pub verdict_of : (code rate frames : ℕ) → Verdict
 verdict_of code rate frames = checked (setup_check_of (solo_of (impulse_setup code rate)) 1) (after_setup rate frames)
@@ -137,13 +132,13 @@ unfoldable pub refused_text : ℕ → List ℕ
 refused_text n = 114 ∷ 101 ∷ 102 ∷ 117 ∷ 115 ∷ 101 ∷ 100 ∷ 32 ∷ decimal_text n ++ 10 ∷ []
 
 abbrev pub answered : Verdict → List Float → List ℕ
-answered Fine samples = samples_text 0 samples
-answered Large samples = large_text
-answered (Refused n) samples = refused_text n
+answered (Ok u) samples = samples_text 0 samples
+answered (Err Large) samples = large_text
+answered (Err (Refused n)) samples = refused_text n
 
-unfoldable pub answer_text : Request → List ℕ
-answer_text Line = line_text
-answer_text (Asked code rate frames) = answered (verdict_of code rate frames) (response_of code rate frames)
+unfoldable pub answer_text : Option Asked → List ℕ
+answer_text None = line_text
+answer_text (Some a) = answered (verdict_of a.code a.rate a.frames) (response_of a.code a.rate a.frames)
 
 -- the whole output of an input
 unfoldable pub impulse_text : List ℕ → List ℕ

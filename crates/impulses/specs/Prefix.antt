@@ -1,6 +1,6 @@
 -- What an input asks for is decided by its first line, and by its first 30 bytes: a line of three decimals has 29 bytes at most, so a longer one is no
 -- request however it goes on. Hence a program may stop at the newline or after 64 bytes and leave the rest. Assumes nothing.
-use Rattle.std.specs.Prelude.{◌≡◌, ℕ, zero, suc, ◌+◌, ◌-◌, ◌<◌, ◌≤◌, Bool, true, false, cond, ◌&&◌, ◌||◌, List, [], ◌∷◌, length, take, ◌==◌, nat_le}
+use Rattle.std.specs.Prelude.{◌≡◌, ℕ, zero, suc, ◌+◌, ◌-◌, ◌<◌, ◌≤◌, Bool, true, false, cond, ◌&&◌, ◌||◌, List, [], ◌∷◌, length, take, ◌==◌, nat_le, Option, None, Some}
 use Rattle.std.proofs.Math.Path.{refl, sym}
 use Rattle.std.proofs.Common.{ap, ◌∙◌, take-take}
 use native.Mathlib.Omega.{arith}
@@ -8,9 +8,7 @@ use Rattle.std.proofs.Math.ListN.{length-take}
 use borrow.Author.Tests.{leb-true, leb-false, ne_eqb}
 use Rattle.text.specs.declared.Span.{Span}
 use Rattle.text.specs.Text.{count, count_before, first_of, word_at, line_end}
-use Rattle.impulses.specs.declared.Decimal.{Decimal}
-use Rattle.impulses.specs.declared.Decimal.TheVariants.{Value, Malformed}
-use Rattle.impulses.specs.declared.Request.TheVariants.{Line}
+use Rattle.impulses.specs.declared.Asked.{Asked}
 use Rattle.impulses.specs.Impulse.{short_decimal, asked, line_request, request_of}
 
 abbrev LineDecides : Type 0
@@ -21,18 +19,18 @@ PrefixDecides = (n : ℕ) (s : List ℕ) → 30 ≤ n → request_of (take n s) 
 
 -- ---- a line of 30 bytes or more
 
-no_second : (d e : Decimal) → asked d Malformed e ≡ Line
+no_second : (d e : Option ℕ) → asked d None e ≡ None
 unfolding asked
-no_second (Value v) e = refl
-no_second Malformed e = refl
+no_second (Some v) e = refl
+no_second None e = refl
 
-no_third : (d e : Decimal) → asked d e Malformed ≡ Line
+no_third : (d e : Option ℕ) → asked d e None ≡ None
 unfolding asked
-no_third (Value v) (Value w) = refl
-no_third (Value v) Malformed = refl
-no_third Malformed e = refl
+no_third (Some v) (Some w) = refl
+no_third (Some v) None = refl
+no_third None e = refl
 
-either_way : (t : Bool) → cond t Line Line ≡ Line
+either_way : (t : Bool) → ◌≡◌ {A = Option Asked} (cond t None None) None
 either_way true = refl
 either_way false = refl
 
@@ -41,7 +39,7 @@ last_false true true = refl
 last_false true false = refl
 last_false false u = refl
 
-pub malformed : (s : List ℕ) (w : Span) → nat_le (w.end - w.start) 9 ≡ false → short_decimal s w ≡ Malformed
+pub malformed : (s : List ℕ) (w : Span) → nat_le (w.end - w.start) 9 ≡ false → short_decimal s w ≡ None
 unfolding short_decimal
 malformed s w e = rw e
 
@@ -50,7 +48,7 @@ unfolding word_at
 start_is s at w e = ap (λ (v : Span). v.start) e
 
 module _ (l : List ℕ) (a b c : Span) (ea : a ≡ word_at l 0) (eb : b ≡ word_at l (a.end + 1)) (ec : c ≡ word_at l (b.end + 1)) (h : 30 ≤ length l) where
-  words : (p q r : Bool) → nat_le (a.end - a.start) 9 ≡ p → nat_le (b.end - b.start) 9 ≡ q → nat_le (c.end - c.start) 9 ≡ r → line_request l ≡ Line
+  words : (p q r : Bool) → nat_le (a.end - a.start) 9 ≡ p → nat_le (b.end - b.start) 9 ≡ q → nat_le (c.end - c.start) 9 ≡ r → line_request l ≡ None
   unfolding line_request asked
   words false q r x y z = rw (← ea, ← eb, ← ec, malformed l a x, either_way)
   words true false r x y z = rw (← ea, ← eb, ← ec, malformed l b y, no_second, either_way)
@@ -63,7 +61,7 @@ module _ (l : List ℕ) (a b c : Span) (ea : a ≡ word_at l 0) (eb : b ≡ word
       let n : c.end ≡ length l → ⊥ = λ e. omega arith in
       rw (← ea, ← eb, ← ec, ne_eqb c.end (length l) n, last_false)
 
-long_line : (l : List ℕ) → 30 ≤ length l → line_request l ≡ Line
+long_line : (l : List ℕ) → 30 ≤ length l → line_request l ≡ None
 long_line l h =
     let a = word_at l 0 in
     let b = word_at l (a.end + 1) in

@@ -15,6 +15,7 @@ use ladders::Rows;
 use lines::Ring;
 use poles::Series;
 use stages::Five;
+use tuning::{KeptNumbers, KeptPlan};
 
 // What a structure's coefficients have of the kept numbers.
 fn rows_of(tuning: &[f32; 10]) -> Rows
@@ -43,16 +44,14 @@ fn weights_of(tuning: &[f32; 10]) -> Five
     Five(tuning[3], tuning[4], tuning[5], tuning[6], tuning[7])
 }
 
-// One tick of the structure `code`. `tuning` holds the numbers kept at this pitch and character, `blended`
-// PoleZero's at this pitch, X, Y and Z, `plan` and `teeth` the chord comb's at this pitch.
+// One tick of the structure `code`. `kept` holds the numbers of this pitch and character, and PoleZero's of this pitch, X, Y and Z, `comb` the chord
+// comb's plan at this pitch.
 pub fn kernel(
     code: u32,
     sections: &[f32; 320],
     series: Series,
-    tuning: &[f32; 10],
-    blended: &[f32; 44],
-    plan: &[usize; 65],
-    teeth: &[f32; 9],
+    kept: &KeptNumbers,
+    comb: &KeptPlan,
     state: &mut [f32; 20],
     delay: &mut [f32],
     at: Ring,
@@ -60,12 +59,13 @@ pub fn kernel(
     p: Settings,
     x: f32,
 ) -> f32
-    requires { (StandsIn delay.old at) × (Tuned code (table_with series sections.now) pitch p tuning.now blended.now)
-        × (PlannedAt code at.len pitch p plan.now teeth.now) }
+    requires { (StandsIn delay.old at) × (Tuned code (table_with series sections.now) pitch p kept.now.tuning kept.now.blended)
+        × (PlannedAt code at.len pitch p comb.now.plan comb.now.teeth) }
     ensures { KernelLeaves
         (kernel_at code (table_with series sections.now) at pitch p state.old delay.old x)
         delay.old at result state.new delay.new }
 {
+    let tuning = &kept.tuning;
     match code {
         1 => sweeps::buzz_step(sweeps::buzz_with(tuning[0], p), state, x),
         2 => sweeps::dj_step(
@@ -82,7 +82,7 @@ pub fn kernel(
             state,
             x,
         ),
-        8 => poles::pole_zero_step(blended, series, state, x),
+        8 => poles::pole_zero_step(&kept.blended, series, state, x),
         9 => combs::comb_step(combs::comb_with(tuning[0], tuning[1], p), delay, at, x),
         10 => expanders::multimode_step(expander_of(tuning, p), weights_of(tuning), state, x),
         11 => expanders::band_step(expander_of(tuning, p), state, x),
@@ -91,10 +91,15 @@ pub fn kernel(
             state,
             x,
         ),
-        13 => {
-            let chord = p.chord;
-            combs::chord_step(combs::feedback_path(p), chord, plan, teeth, delay, at, x)
-        }
+        13 => combs::chord_step(
+            combs::feedback_path(p),
+            p.chord,
+            &comb.plan,
+            &comb.teeth,
+            delay,
+            at,
+            x,
+        ),
         _ => x,
     }
 }

@@ -1,6 +1,6 @@
 // What a kernel has of the pitch and the character alone, or PoleZero of the pitch, X, Y and Z, kept from frame to frame and worked out
 // again when one of them changes; and the chord comb's plan, of the ratio.
-ghost use Rattle.std.specs.Prelude.{◌≡◌, true, false, ◌+◌};
+ghost use Rattle.std.specs.Prelude.{◌≡◌, ℕ, true, false, ◌+◌};
 ghost use Rattle.std.specs.Float.Ieee.{is_nan};
 ghost use Rattle.filter.specs.Filter.{gain_of, over_of, once};
 ghost use Rattle.sweeps.specs.Sweeps.{dj_coefficients, dj_over};
@@ -11,6 +11,7 @@ ghost use Rattle.teeth.specs.Promises.{PlannedFor};
 ghost use Rattle.kernels.specs.Tuning.{three_numbers, dj_numbers, row_numbers, driven_numbers, comb_numbers, band_numbers};
 ghost use Rattle.kernels.specs.Tuning.{multimode_numbers, k35_numbers, gain_numbers, numbers_of, tuning_of, tuned_over, key_of};
 ghost use Rattle.kernels.specs.Tuning.{blended_of, blended_over, driven_list};
+ghost use Rattle.pole_zero.specs.declared.Table.{Table};
 ghost use Rattle.poles.specs.Poles.{pad_of};
 ghost use Rattle.kernels.specs.Promises.{table_with, Kept, KeptSections, KeptTeeth, TunedAt, DrivenAt, BlendedAt};
 
@@ -57,8 +58,7 @@ fn row_numbers(c: Rows) -> Numbers
 fn driven_numbers(c: DrivenLadder) -> Numbers
     ensures { result ≡ driven_numbers c }
 {
-    let ladder = c.ladder;
-    three_numbers(ladder.g, c.drive, c.full)
+    three_numbers(c.ladder.g, c.drive, c.full)
 }
 
 fn comb_numbers(c: Comb2) -> Numbers
@@ -125,10 +125,9 @@ fn judged_comb(pitch: Pitch, p: Settings) -> JudgedNumbers
     ensures { (result.numbers ≡ comb_numbers (comb_coefficients pitch p)) × (result.over ≡ once (comb_over pitch p) + once (comb_over pitch p)) }
 {
     let c = filter::capped_of(pitch, p.reference_ratio);
-    let ratio = c.ratio;
     let over = filter::once(c.over);
     JudgedNumbers {
-        numbers: comb_numbers(combs::comb_coefficients(ratio.0, p)),
+        numbers: comb_numbers(combs::comb_coefficients(c.ratio.0, p)),
         over: over + over,
     }
 }
@@ -138,11 +137,9 @@ fn judged_chord(pitch: Pitch, p: Settings) -> JudgedNumbers
     ensures { (result.numbers ≡ three_numbers (comb_ratio pitch p) zero zero) × (result.over ≡ chord_over pitch p) }
 {
     let c = filter::capped_of(pitch, p.reference_ratio);
-    let ratio = c.ratio;
-    let chord = p.chord;
-    let n = teeth::teeth_of(chord) as u32;
+    let n = teeth::teeth_of(p.chord) as u32;
     JudgedNumbers {
-        numbers: three_numbers(ratio.0, 0.0, 0.0),
+        numbers: three_numbers(c.ratio.0, 0.0, 0.0),
         over: n * filter::once(c.over),
     }
 }
@@ -177,23 +174,14 @@ fn numbers_of(code: u32, pitch: Pitch, p: Settings, before: u32) -> JudgedNumber
 pub fn same(a: f32, b: f32) -> bool
     ensures { result ≡ true → (is_nan a ≡ false) × (a ≡ b) }
 {
-    if a != a {
-        return false;
-    }
-    if b != b {
-        return false;
-    }
-    f32::to_bits(a) == f32::to_bits(b)
+    a == a && b == b && a.to_bits() == b.to_bits()
 }
 
 // Whether the kept numbers are those of this pitch and character.
 fn is_tuned(tuning: &[f32; 10], pitch: f32, character: f32) -> bool
     ensures { result ≡ true → TunedAt tuning.now pitch character }
 {
-    if same(tuning[8], pitch) {
-        return same(tuning[9], character);
-    }
-    false
+    same(tuning[8], pitch) && same(tuning[9], character)
 }
 
 // The kept numbers of a pitch and a character.
@@ -218,13 +206,7 @@ fn tuned(code: u32, pitch: Pitch, p: Settings, before: u32) -> Tuning
 fn is_driven(code: u32, tuning: &[f32; 10], character: f32) -> bool
     ensures { result ≡ true → DrivenAt code tuning.now character }
 {
-    if code != 7 {
-        return false;
-    }
-    if same(tuning[8], tuning[8]) {
-        return same(tuning[9], character);
-    }
-    false
+    code == 7 && same(tuning[8], tuning[8]) && same(tuning[9], character)
 }
 
 // The driven ladder's numbers at another pitch: what follows from the character stays.
@@ -240,110 +222,160 @@ fn driven_at(tuning: &[f32; 10], pitch: Pitch, reference: Ratio, character: f32)
     }
 }
 
-// Brings the kept numbers and count to this pitch and character.
-pub fn retune(
+// The numbers and the count of another pitch or character than those of `tuning`.
+fn retuned(
     code: u32,
-    tuning: &mut [f32; 10],
-    over: &mut u32,
+    tuning: &[f32; 10],
+    over: u32,
     pitch: Pitch,
     reference: Ratio,
     chord: Chord,
     character: f32,
-)
-    requires { Kept code reference chord tuning.old over.old }
-    ensures { (tuning.new ≡ tuning_of code pitch (key_of reference chord character))
-        × (over.new ≡ tuned_over code pitch (key_of reference chord character) over.old) }
+) -> Tuning
+    requires { Kept code reference chord tuning.now over }
+    ensures { (result.numbers ≡ tuning_of code pitch (key_of reference chord character))
+        × (result.over ≡ tuned_over code pitch (key_of reference chord character) over) }
 {
-    if is_tuned(tuning, pitch.0, character) {
-        return;
-    }
     if is_driven(code, tuning, character) {
-        let driven = driven_at(tuning, pitch, reference, character);
-        let at_pitch = driven.numbers;
-        *tuning = at_pitch;
-        *over = driven.over;
-        return;
+        return driven_at(tuning, pitch, reference, character);
     }
-    let next = tuned(
+    tuned(
         code,
         pitch,
         Settings {
             resonance: 0.0,
             inv_knee: 0.0,
-            character: character,
+            character,
             x: 0.0,
             y: 0.0,
             z: 0.0,
             ref_over_rate: reference,
             reference_ratio: reference,
-            chord: chord,
+            chord,
         },
-        *over,
-    );
-    let numbers = next.numbers;
-    *tuning = numbers;
-    *over = next.over;
+        over,
+    )
 }
 
 // Whether the kept numbers of the sections are those of this pitch, X, Y and Z.
 fn is_blended(blended: &[f32; 44], pitch: f32, x: f32, y: f32, z: f32) -> bool
     ensures { result ≡ true → BlendedAt blended.now pitch x y z }
 {
-    if same(blended[40], pitch) {
-        if same(blended[41], x) {
-            if same(blended[42], y) {
-                return same(blended[43], z);
-            }
+    same(blended[40], pitch) && same(blended[41], x) && same(blended[42], y) && same(blended[43], z)
+}
+
+// The numbers kept from frame to frame: `tuning` those of a pitch and a character, which are its last two, `blended` PoleZero's, of a pitch, X, Y
+// and Z, its last four, and how often a tick at them judges a ratio greater than its cap.
+#[derive(Clone, Copy)]
+pub struct KeptNumbers {
+    pub tuning: [f32; 10],
+    pub blended: [f32; 44],
+    pub over: u32,
+}
+
+impl KeptNumbers {
+    // None yet: their pitch, X, Y and Z are NaN, which nothing equals.
+    pub fn unset() -> KeptNumbers
+        ensures tuning { (code : ℕ) (reference : Ratio) (chord : Chord) → Kept code reference chord result.tuning result.over }
+        ensures sections { (code : ℕ) (table : Table) (reference : Ratio) → KeptSections code table reference result.blended result.over }
+    {
+        let tuning = [f32::NAN; 10];
+        let blended = [f32::NAN; 44];
+        KeptNumbers {
+            tuning,
+            blended,
+            over: 0,
         }
     }
-    false
+
+    // Brings the numbers and the count to this pitch and character.
+    pub fn retune(
+        &mut self,
+        code: u32,
+        pitch: Pitch,
+        reference: Ratio,
+        chord: Chord,
+        character: f32,
+    )
+        requires { Kept code reference chord self.old.tuning self.old.over }
+        ensures { (self.new.tuning ≡ tuning_of code pitch (key_of reference chord character))
+            × (self.new.over ≡ tuned_over code pitch (key_of reference chord character) self.old.over)
+            × (self.new.blended ≡ self.old.blended) }
+    {
+        if is_tuned(&self.tuning, pitch.0, character) {
+            return;
+        }
+        let next = retuned(
+            code,
+            &self.tuning,
+            self.over,
+            pitch,
+            reference,
+            chord,
+            character,
+        );
+        let numbers = next.numbers;
+        self.tuning = numbers;
+        self.over = next.over;
+    }
+
+    // Brings the sections' numbers and the count to this pitch, X, Y and Z. Only PoleZero (code 8) has sections.
+    pub fn blend_sections(
+        &mut self,
+        code: u32,
+        sections: &[f32; 320],
+        series: Series,
+        pitch: Pitch,
+        p: Settings,
+    )
+        requires { KeptSections code (table_with series sections.now) p.ref_over_rate self.old.blended self.old.over }
+        ensures { (self.new.blended ≡ blended_of code (table_with series sections.now) pitch p self.old.blended)
+            × (self.new.over ≡ blended_over code (table_with series sections.now) p.ref_over_rate pitch (pad_of series.three p)
+            self.old.over) × (self.new.tuning ≡ self.old.tuning) }
+    {
+        if code != 8 {
+            return;
+        }
+        if is_blended(&self.blended, pitch.0, p.x, p.y, p.z) {
+            return;
+        }
+        let next = poles::pole_numbers(sections, series, pitch, p);
+        let numbers = next.numbers;
+        self.blended = numbers;
+        self.over = next.over;
+    }
 }
 
-// Brings the sections' kept numbers and count to this pitch, X, Y and Z. Only PoleZero (code 8) has sections.
-pub fn blend_sections(
-    code: u32,
-    blended: &mut [f32; 44],
-    over: &mut u32,
-    sections: &[f32; 320],
-    series: Series,
-    pitch: Pitch,
-    p: Settings,
-)
-    requires { KeptSections code (table_with series sections.now) p.ref_over_rate blended.old over.old }
-    ensures { (blended.new ≡ blended_of code (table_with series sections.now) pitch p blended.old)
-        × (over.new ≡ blended_over code (table_with series sections.now) p.ref_over_rate pitch (pad_of series.three p)
-        over.old) }
-{
-    if code != 8 {
-        return;
-    }
-    if is_blended(blended, pitch.0, p.x, p.y, p.z) {
-        return;
-    }
-    let next = poles::pole_numbers(sections, series, pitch, p);
-    let numbers = next.numbers;
-    *blended = numbers;
-    *over = next.over;
+// The chord comb's plan of its teeth, of a ratio, which stands last in `teeth`.
+#[derive(Clone, Copy)]
+pub struct KeptPlan {
+    pub plan: [usize; 65],
+    pub teeth: [f32; 9],
 }
 
-// Brings the plan of the teeth to a ratio. Only the chord comb (code 13) has teeth.
-pub fn replan(
-    code: u32,
-    plan: &mut [usize; 65],
-    teeth: &mut [f32; 9],
-    len: usize,
-    ratio: f32,
-    chord: Chord,
-)
-    requires { (is_length len ≡ true) × (KeptTeeth len chord plan.old teeth.old) }
-    ensures { (KeptTeeth len chord plan.new teeth.new)
-        × (code ≡ 13 → PlannedFor len chord ratio plan.new teeth.new) }
-{
-    if code != 13 {
-        return;
+impl KeptPlan {
+    // None yet: its ratio is NaN, which nothing equals.
+    pub fn unset() -> KeptPlan
+        ensures { (len : ℕ) (chord : Chord) → KeptTeeth len chord result.plan result.teeth }
+    {
+        let plan = [0usize; 65];
+        let teeth = [f32::NAN; 9];
+        KeptPlan { plan, teeth }
     }
-    if same(teeth[8], ratio) {
-        return;
+
+    // Brings the plan to a ratio. Only the chord comb (code 13) has teeth.
+    pub fn replan(&mut self, code: u32, len: usize, ratio: f32, chord: Chord)
+        requires { (is_length len ≡ true) × (KeptTeeth len chord self.old.plan self.old.teeth) }
+        ensures { (KeptTeeth len chord self.new.plan self.new.teeth)
+            × (code ≡ 13 → PlannedFor len chord ratio self.new.plan self.new.teeth) }
+    {
+        if code != 13 {
+            return;
+        }
+        if same(self.teeth[8], ratio) {
+            return;
+        }
+        let KeptPlan { plan, teeth } = self;
+        teeth::plan_teeth(len, ratio, chord, plan, teeth);
     }
-    teeth::plan_teeth(len, ratio, chord, plan, teeth);
 }

@@ -137,6 +137,12 @@ diode_solve c state k input =
 unfoldable pub diode_feedback : DiodeLadder → (state : List Float) → Float
 diode_feedback c state = c.base ⊗ saturation_gain (state ‼ 4) c.inv_knee
 
+-- a tick on the ladder's input, with its feedback k
+unfoldable pub diode_step : Rows → (state : List Float) (k input : Float) → Ticked
+diode_step c state k input =
+    let y = diode_solve c state k input in
+    record { out = y.y4; state = ladder_states state y }
+
 unfoldable pub acid_step : DiodeLadder → (state : List Float) (x : Float) → Ticked
 acid_step c state x =
     let y = diode_solve c.rows state (diode_feedback c state) (asym_of x) in

@@ -9,18 +9,11 @@ ghost use Rattle.extended.specs.Extended.{ticked};
 ghost use Rattle.stages.specs.Promises.{stages_of};
 ghost use Rattle.ladders.specs.Ladders.{transistor_with, stage_gain, stage_gains, transistor_solve, transistor_step};
 ghost use Rattle.ladders.specs.Ladders.{driven_coefficients, driven_with, driven_step};
-ghost use Rattle.ladders.specs.Ladders.{diode_rows, acid_with, clean_ladder_with, diode_solve, diode_feedback, acid_step, clean_ladder_step};
+ghost use Rattle.ladders.specs.Ladders.{diode_rows, acid_with, clean_ladder_with, diode_solve, diode_feedback, diode_step, acid_step, clean_ladder_step};
 
 use extended::Settings;
-use stages::{Four, Stages};
-
-const LOG2_10: f32 = 3.32192809488736234787031942948939018;
-
-// The ladder's feedback at resonance 1.
-const LADDER_MAX: f32 = 4.1;
-
-// How much of the ladder's feedback raises its input.
-const LADDER_COMPENSATION: f32 = 0.5;
+use stages::{Four, LADDER_COMPENSATION, LADDER_MAX, Stages};
+use std::f32::consts::LOG2_10;
 
 // The transistor ladders: four one-pole stages with feedback from the last, each stage's gain falling as its state grows, solved in
 // closed form.
@@ -39,7 +32,7 @@ pub fn transistor_with(g: f32, p: Settings) -> TransistorLadder
     ensures { result ≡ transistor_with g p }
 {
     TransistorLadder {
-        g: g,
+        g,
         base: p.resonance * LADDER_MAX,
         inv_knee: p.inv_knee,
     }
@@ -80,9 +73,9 @@ fn transistor_solve(s: Four, gg: Four, k: f32, x: f32) -> Stages
     let y2 = gg.1 * y1 + b1;
     let y3 = gg.2 * y2 + b2;
     Stages {
-        y1: y1,
-        y2: y2,
-        y3: y3,
+        y1,
+        y2,
+        y3,
         y4: gg.3 * y3 + b3,
     }
 }
@@ -119,12 +112,11 @@ pub fn driven_with(g: f32, drive: f32, full: f32, p: Settings) -> DrivenLadder
 {
     DrivenLadder {
         ladder: TransistorLadder {
-            g: g,
-            base: p.resonance * LADDER_MAX,
             inv_knee: p.inv_knee * DRIVEN_KNEE,
+            ..transistor_with(g, p)
         },
-        drive: drive,
-        full: full,
+        drive,
+        full,
     }
 }
 
@@ -139,9 +131,8 @@ pub fn driven_coefficients(g: f32, p: Settings) -> DrivenLadder
 pub fn driven_step(c: DrivenLadder, state: &mut [f32; 20], x: f32) -> f32
     ensures { ticked result state.new ≡ driven_step c state.old x }
 {
-    let ladder = c.ladder;
     let u = lane::soft_clip(x * c.drive) / c.full;
-    transistor_step(ladder, state, u)
+    transistor_step(c.ladder, state, u)
 }
 
 // What a diode ladder's elimination has of the pitch alone, row by row.
@@ -192,13 +183,13 @@ pub fn diode_rows(gain: f32) -> Rows
     let a2 = e * r2;
     let r3 = 1.0 / (d - g * a2);
     Rows {
-        g: g,
-        e: e,
-        r1: r1,
-        a1: a1,
-        r2: r2,
-        a2: a2,
-        r3: r3,
+        g,
+        e,
+        r1,
+        a1,
+        r2,
+        a2,
+        r3,
     }
 }
 
@@ -207,9 +198,8 @@ pub fn acid_with(rows: Rows, p: Settings) -> DiodeLadder
     ensures { result ≡ acid_with rows p }
 {
     DiodeLadder {
-        rows: rows,
-        base: p.resonance * (DIODE_K * DIODE_OVERSHOOT),
         inv_knee: p.inv_knee * ACID_KNEE,
+        ..clean_ladder_with(rows, p)
     }
 }
 
@@ -218,7 +208,7 @@ pub fn clean_ladder_with(rows: Rows, p: Settings) -> DiodeLadder
     ensures { result ≡ clean_ladder_with rows p }
 {
     DiodeLadder {
-        rows: rows,
+        rows,
         base: p.resonance * (DIODE_K * DIODE_OVERSHOOT),
         inv_knee: p.inv_knee,
     }
@@ -237,12 +227,7 @@ fn diode_solve(c: Rows, state: &[f32; 20], k: f32, input: f32) -> Stages
     let y3 = p3 * y4 + b3;
     let y2 = c.a2 * y3 + (d2 * y4 + b2);
     let y1 = c.a1 * y2 + (d1 * y4 + b1);
-    Stages {
-        y1: y1,
-        y2: y2,
-        y3: y3,
-        y4: y4,
-    }
+    Stages { y1, y2, y3, y4 }
 }
 
 fn diode_feedback(c: DiodeLadder, state: &[f32; 20]) -> f32
@@ -251,23 +236,26 @@ fn diode_feedback(c: DiodeLadder, state: &[f32; 20]) -> f32
     c.base * lane::saturation_gain(state[4], c.inv_knee)
 }
 
+// A diode ladder's tick on its input, with its feedback.
+fn diode_step(c: Rows, state: &mut [f32; 20], k: f32, input: f32) -> f32
+    ensures { ticked result state.new ≡ diode_step c state.old k input }
+{
+    let y = diode_solve(c, state, k, input);
+    stages::store_ladder(state, y);
+    y.y4
+}
+
 // State: 0 to 3 the stages, 4 the previous fourth-stage output.
 pub fn acid_step(c: DiodeLadder, state: &mut [f32; 20], x: f32) -> f32
     ensures { ticked result state.new ≡ acid_step c state.old x }
 {
-    let rows = c.rows;
     let k = diode_feedback(c, state);
-    let y = diode_solve(rows, state, k, extended::asym(x));
-    stages::store_ladder(state, y);
-    y.y4
+    diode_step(c.rows, state, k, extended::asym(x))
 }
 
 pub fn clean_ladder_step(c: DiodeLadder, state: &mut [f32; 20], x: f32) -> f32
     ensures { ticked result state.new ≡ clean_ladder_step c state.old x }
 {
-    let rows = c.rows;
     let k = diode_feedback(c, state);
-    let y = diode_solve(rows, state, k, x * (1.0 + k));
-    stages::store_ladder(state, y);
-    y.y4
+    diode_step(c.rows, state, k, x * (1.0 + k))
 }

@@ -5,14 +5,13 @@ ghost use Rattle.std.specs.Prelude.{◌≡◌};
 ghost use Rattle.lane.specs.Floats.{fma};
 ghost use Rattle.lane.specs.Lane.{is_minus_zero, max_of, min_of, clamp_of, exp2_of, pow10_of, exp_of, tan_of, soft_clip, saturation_gain};
 
+use std::f32::consts::{LN_2, LOG2_10, LOG2_E};
+
 // Whether x is -0, by its bits.
 pub fn is_minus_zero(x: f32) -> bool
     ensures { result ≡ is_minus_zero x }
 {
-    if x != x {
-        return false;
-    }
-    f32::to_bits(x) == 2147483648
+    !x.is_nan() && x.to_bits() == 2147483648
 }
 
 // The larger of two, -0 being below +0; a NaN gives way to the other. Where b is a number other than -0 one comparison decides; of a
@@ -20,11 +19,11 @@ pub fn is_minus_zero(x: f32) -> bool
 pub fn max(a: f32, b: f32) -> f32
     ensures { result ≡ max_of a b }
 {
-    if b != b {
+    if b.is_nan() {
         return a;
     }
     if is_minus_zero(b) {
-        if a != a {
+        if a.is_nan() {
             return b;
         }
         return if a < b { b } else { a };
@@ -36,10 +35,10 @@ pub fn max(a: f32, b: f32) -> f32
 pub fn min(a: f32, b: f32) -> f32
     ensures { result ≡ min_of a b }
 {
-    if a != a {
+    if a.is_nan() {
         return b;
     }
-    if b != b {
+    if b.is_nan() {
         return a;
     }
     if is_minus_zero(b) {
@@ -64,12 +63,6 @@ pub fn fma(x: f32, mul: f32, add: f32) -> f32
 {
     x * mul + add
 }
-
-const LN_2: f32 = 0.693147180559945309417232121458176568;
-
-const LOG2_10: f32 = 3.32192809488736234787031942948939018;
-
-const LOG2_E: f32 = 1.44269504088896340735992468100189214;
 
 // The largest magnitude `exp2` takes; beyond it, it clamps.
 const EXP2_RANGE: f32 = 12.0;

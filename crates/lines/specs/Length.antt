@@ -1,9 +1,11 @@
 -- For the proofs: nothing here must be believed.
 -- A ring's length: an eighth of an accepted rate has a whole part from 1,000 to 48,000, as products keep the order; and the next
 -- power of two goes by the number of binary digits. Assumes nothing.
-use Rattle.std.specs.Prelude.{◌≡◌, ℕ, suc, ◌-◌, ◌^◌, ◌<◌, ◌≤◌, Bool, true, false, ◌||◌, T, refl, Float}
-use Rattle.std.proofs.Common.{sym, ap, subst, true≢false, le_trans, lt_of_lt_of_le, lt_of_not-le, lt_irrefl, le_antisymm, arith, pow_mono}
+use Rattle.std.specs.Prelude.{◌≡◌, ℕ, zero, suc, ◌-◌, ◌*◌, ◌/◌, max, ◌^◌, ◌<◌, ◌≤◌, Bool, true, false, ◌||◌, T, refl, Float}
+use Rattle.std.proofs.Common.{sym, ◌∙◌, ap, subst, true≢false, le_trans, lt_of_lt_of_le, lt_of_not-le, lt_irrefl, le_antisymm, arith, pow_mono}
+use Rattle.std.proofs.Math.Nat.{pow-succ'}
 use Rattle.std.specs.Float.{binary32}
+use Rattle.std.specs.Int.{IsPowerOfTwo}
 use Rattle.std.specs.Float.Ieee.{size, mul, le, lt, round, is_nan}
 use Rattle.std.specs.Float.Ieee.Digits.{size-lt, size-le}
 use Rattle.std.specs.Float.Ieee.Positive.{positive, between, mul_mono}
@@ -25,6 +27,20 @@ power-is n j a b =
 
     least : (n p : ℕ) → p < n → p ≤ n - 1
     least n p h = omega arith
+
+-- what the library's method answers is the least power of two that is n at least
+pub next_is : (n r : ℕ) → 2 ≤ n → IsPowerOfTwo r → n ≤ r → r / 2 < max 1 n → r ≡ next_power n
+next_is n r two (zero, e) a b = absurd (contradiction e a)
+  where
+    contradiction : r ≡ 2 ^ 0 → n ≤ r → ⊥
+    contradiction e a = omega arith
+next_is n r two (suc j, e) a b = e ∙ power-is n j (half (2 ^ j) (e ∙ power)) (subst (λ (z : ℕ). n ≤ z) e a)
+  where
+    power : 2 ^ suc j ≡ 2 * 2 ^ j
+    power = pow-succ' 2 j
+
+    half : (p : ℕ) → r ≡ 2 * p → p < n
+    half p e = omega arith
 
 abbrev low : Float
 low = whole 8000

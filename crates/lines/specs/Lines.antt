@@ -12,6 +12,10 @@ whole_part x = to_unsigned 64 x
 
 -- ---- a ring's length
 
+-- NaN, below the low number or above the high one
+abbrev pub is_outside : Float → Float → Float → Bool
+is_outside x low high = is_nan x || lt x low || lt high x
+
 -- refusal 1: NaN, below 8,000 or above 384,000
 unfoldable pub rate_refused : Float → Bool
 rate_refused rate = is_nan rate || lt rate (whole 8000) || lt (whole 384000) rate

@@ -93,15 +93,6 @@ unfolding is_view
 is_bad len slot have h = sym (ap (λ (b : Bool). b && nat_le (slot * len + len) have) (none lengths len h))
 
 -- ---- the cell that a wrapped difference names
-pub cell_is : (len cursor back r : ℕ) → cursor < 2 ^ 64 → back < 2 ^ 64 → r < 2 ^ 64
-    → (r + back) % 2 ^ 64 ≡ cursor → r % len ≡ cell_of len cursor back
-unfolding cell_of
-cell_is len cursor back r a b c e = ap (λ (z : ℕ). z % len) (wrapped cursor back r a b c e)
-  where
-    wrapped : (cursor back r : ℕ) → cursor < 2 ^ 64 → back < 2 ^ 64 → r < 2 ^ 64
-        → (r + back) % 2 ^ 64 ≡ cursor → r ≡ (cursor + (2 ^ 64 - back)) % 2 ^ 64
-    wrapped cursor back r a b c e = omega arith
-
 -- the wrapped difference is the cursor's own cell, b less, and whole turns
 pub whole_turns : (len cursor b : ℕ) → is_length len ≡ true → cursor < 2 ^ 64 → b < len → (P : Type 0)
     → ((k : ℕ) → k * len + cursor % len ≡ (cursor + (2 ^ 64 - b)) % 2 ^ 64 + b → P) → P

@@ -5,7 +5,7 @@
 ghost use Rattle.std.specs.Prelude.{◌≡◌, ◌+◌, ◌*◌, ◌<◌, ◌≤◌, length, slice_index_or};
 ghost use Rattle.std.specs.Float.{nan};
 ghost use Rattle.parts.specs.Parts.{piece};
-ghost use Rattle.lines.specs.Lines.{whole_part, rate_refused, next_power, ring_len, hermite_of, held, cell_of, taps_of, is_view, read_of, write_of};
+ghost use Rattle.lines.specs.Lines.{whole_part, is_outside, rate_refused, ring_len, hermite_of, held, cell_of, taps_of, is_view, read_of, write_of};
 
 // Where a slot's ring stands in the lent delay list: its length, the cursor and the slot.
 #[derive(Clone, Copy)]
@@ -21,43 +21,18 @@ const MAX_DELAY_SECONDS: f32 = 0.125;
 // The shortest delay read, in samples: the interpolator reads one sample newer than the delay.
 const MIN_DELAY: f32 = 2.0;
 
+// NaN, below `low` or above `high`: what the refusals ask of a number.
+pub fn is_outside(x: f32, low: f32, high: f32) -> bool
+    ensures { result ≡ is_outside x low high }
+{
+    x.is_nan() || x < low || x > high
+}
+
 // Refusal 1: NaN, below 8,000 or above 384,000.
 pub fn rate_refused(rate: f32) -> bool
     ensures { result ≡ rate_refused rate }
 {
-    if rate != rate {
-        return true;
-    }
-    if rate < 8000.0 {
-        return true;
-    }
-    rate > 384000.0
-}
-
-// The least power of two that is n at least.
-fn next_power(n: u64) -> usize
-    requires { (513 ≤ n) × (n ≤ 65536) }
-    ensures { result ≡ next_power n }
-{
-    if n <= 1024 {
-        return 1024;
-    }
-    if n <= 2048 {
-        return 2048;
-    }
-    if n <= 4096 {
-        return 4096;
-    }
-    if n <= 8192 {
-        return 8192;
-    }
-    if n <= 16384 {
-        return 16384;
-    }
-    if n <= 32768 {
-        return 32768;
-    }
-    65536
+    is_outside(rate, 8000.0, 384000.0)
 }
 
 // Each slot's ring length at `rate`: a power of two; 0 for a rate that is refused.
@@ -67,7 +42,8 @@ pub fn ring_len(rate: f32) -> usize
     if rate_refused(rate) {
         return 0;
     }
-    next_power(std::num::truncating_f32_to_u64(rate * MAX_DELAY_SECONDS) + 8)
+    let cells = std::num::truncating_f32_to_u64(rate * MAX_DELAY_SECONDS) + 8;
+    cells.next_power_of_two() as usize
 }
 
 // A power of two from 1,024 to 65,536, and a slot that ends within `have` cells. The division cannot wrap, where the slot's
@@ -75,10 +51,7 @@ pub fn ring_len(rate: f32) -> usize
 pub fn is_view(len: usize, slot: usize, have: usize) -> bool
     ensures { result ≡ is_view len slot have }
 {
-    match len {
-        1024 | 2048 | 4096 | 8192 | 16384 | 32768 | 65536 => slot < have / len,
-        _ => false,
-    }
+    matches!(len, 1024 | 2048 | 4096 | 8192 | 16384 | 32768 | 65536) && slot < have / len
 }
 
 // The delay clamped to MIN_DELAY .. len - 3; a NaN fails the first test.
@@ -88,12 +61,10 @@ pub fn held(len: usize, delay: f32) -> f32
 {
     if delay >= MIN_DELAY {
         let longest = (len - 3) as f32;
-        if delay <= longest {
-            return delay;
-        }
-        return longest;
+        if delay <= longest { delay } else { longest }
+    } else {
+        MIN_DELAY
     }
-    MIN_DELAY
 }
 
 // Four-point cubic Hermite interpolation between `p0` and the older `p1`, `t` of the way.
@@ -111,7 +82,7 @@ pub fn whole_part(d: f32) -> u32
     requires { (1 ≤ whole_part d) × (whole_part d ≤ 65536) }
     ensures { result ≡ whole_part d }
 {
-    let b = f32::to_bits(d);
+    let b = d.to_bits();
     (b % 8388608 + 8388608) >> (150 - b / 8388608)
 }
 
@@ -121,7 +92,7 @@ pub fn cell_at(buf: &[f32], len: usize, cursor: usize, slot: usize, back: usize)
     ensures { result ≡ slice_index_or (piece len slot buf.now) (cell_of len cursor back) nan }
 {
     let base = slot * len;
-    let cell = std::num::wrapping_sub_usize(cursor, back) % len;
+    let cell = cursor.wrapping_sub(back) % len;
     buf[base + cell]
 }
 
@@ -148,13 +119,6 @@ pub fn read_at(buf: &[f32], len: usize, cursor: usize, slot: usize, delay: f32) 
         return taps(buf, len, cursor, slot, w as usize, t);
     }
     0.0
-}
-
-// The read for a borrower that holds the list by `&mut`: the list is as it was.
-pub fn read_lent(buf: &mut [f32], len: usize, cursor: usize, slot: usize, delay: f32) -> f32
-    ensures { (result ≡ read_of buf.old len cursor slot delay) × (buf.new ≡ buf.old) }
-{
-    read_at(buf, len, cursor, slot, delay)
 }
 
 // Writes this frame's `value` to the cursor's cell of the slot's ring; nothing for a bad view.

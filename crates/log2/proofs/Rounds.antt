@@ -18,7 +18,7 @@ square r h = mul-le-mul (le h) (le h)
 
 -- what holds after i rounds: F has i digits at most, and the rounds that are left give the answer
 abbrev pub Carried : ℕ → ℕ → ℕ → ℕ → Type 0
-Carried m r F i = (i ≤ 20) × (r < 2147483648) × (F < 2 ^ i) × (rounds (20 - i) r F ≡ rounds 20 (128 * m) 0)
+Carried m r F i = (r < 2147483648) × (F < 2 ^ i) × (rounds (20 - i) r F ≡ rounds 20 (128 * m) 0)
 
 pub small : (F i : ℕ) → i ≤ 20 → F < 2 ^ i → F < 1048576
 small F i h g = lt_of_lt_of_le g (pow_mono {j = 20} h)
@@ -52,22 +52,21 @@ pub again : (m r F i : ℕ) → i < 20 → Carried m r F i → Carried m (r * r 
 again m r F i h v =
     let s = r * r / 1073741824 in
     let b = s / 2147483648 in
-    let s-lt : s < 4294967296 = omega (arith, square r v.1) in
+    let s-lt : s < 4294967296 = omega (arith, square r v.0) in
     let b-le : b ≤ 1 = omega arith in
     let p : 2 ^ (i + 1) ≡ 2 * 2 ^ i = ap (λ (z : ℕ). 2 ^ z) (add-one i) ∙ pow-succ' 2 i in
     let n : 20 - i ≡ suc (20 - (i + 1)) = omega arith in (
-      omega arith,
       halved s b refl s-lt,
-      more F b (2 ^ i) (2 ^ (i + 1)) b-le v.2 p,
-      one_round (20 - (i + 1)) r F s-lt ∙ ap (λ (z : ℕ). rounds z r F) (sym n) ∙ v.3,
+      more F b (2 ^ i) (2 ^ (i + 1)) b-le v.1 p,
+      one_round (20 - (i + 1)) r F s-lt ∙ ap (λ (z : ℕ). rounds z r F) (sym n) ∙ v.2,
     )
   where
     more : (F b x y : ℕ) → b ≤ 1 → F < x → y ≡ 2 * x → 2 * F + b < y
     more F b x y h g e = omega arith
 
-pub done : (m r F i : ℕ) → 20 ≤ i → Carried m r F i → (F ≡ rounds 20 (128 * m) 0) × (F < 1048576)
+pub done : (m r F i : ℕ) → i ≤ 20 → 20 ≤ i → Carried m r F i → (F ≡ rounds 20 (128 * m) 0) × (F < 1048576)
 unfolding rounds
-done m r F i h v = let n : 20 - i ≡ 0 = omega arith in (ap (λ (z : ℕ). rounds z r F) (sym n) ∙ v.3, small F i v.0 v.2)
+done m r F i g h v = let n : 20 - i ≡ 0 = omega arith in (ap (λ (z : ℕ). rounds z r F) (sym n) ∙ v.2, small F i g v.1)
 
 -- k rounds append k digits to F
 pub rounds_lt : (k r F : ℕ) → rounds k r F < 2 ^ k * (F + 1)

@@ -12,13 +12,11 @@ fn fraction(m: u64) -> u64
 {
     let mut r = 128 * m;
     let mut f = 0u64;
-    let mut i = 0u64;
-    while i < 20 {
+    for _ in 0..20u32 {
         let s = r * r / 1073741824;
         let b = s / 2147483648;
         f = 2 * f + b;
         r = s >> b;
-        i += 1;
     }
     f
 }
@@ -39,12 +37,11 @@ fn scaled(v: u64) -> f32
 pub fn log2(q: f32) -> f32
     ensures { result ≡ log_of q }
 {
-    if q >= 0.015625 {
-        if q < 64.0 {
-            let b = f32::to_bits(q) as u64;
-            let f = fraction(b % 8388608 + 8388608);
-            return scaled((b / 8388608 - 1) * 1048576 + f);
-        }
+    if q >= 0.015625 && q < 64.0 {
+        let b = q.to_bits() as u64;
+        let f = fraction(b % 8388608 + 8388608);
+        scaled((b / 8388608 - 1) * 1048576 + f)
+    } else {
+        0.0
     }
-    0.0
 }

@@ -3,11 +3,12 @@ use mathlib.Core.Path.{◌≡◌, refl, sym, ap, ◌∙◌, subst}
 use mathlib.Core.Bool.{true}
 use Prim.Native.Nat.{ℕ, suc, ◌+◌, ◌*◌, ◌/◌, ◌≤◌, ◌<◌}
 use native.Mathlib.Omega.{arith}
-use mathlib.Core.List.{List, []}
+use mathlib.Core.List.{List}
 use lib.Ieee.{Float}
 use lib.ListN.{length, get_or}
 use Rattle.lines.specs.Lines.{ring_len}
 use Rattle.lines.specs.View.{length_of}
+use Rattle.std.specs.Prelude.{Result, Ok, Err}
 use Rattle.voices.specs.Calls.{targets_width, record_width, Check, fine, refused, ◌then◌, Bank, store_check_of, open_verdict}
 use Rattle.voices.specs.Accepted.{check_fine, then_fine, OpenAccepted, open_accepted}
 use Rattle.blocks.specs.Blocks.{parts_of, total}
@@ -20,40 +21,42 @@ use Rattle.setups.specs.Setup.{setup_check_of}
 use Rattle.setups.proofs.Accepted.{SetupAccepted, setup_accepted, file_accepted}
 use Rattle.setups.specs.Parked.{solo_in, voices_in, slots_in, ring_in, cursor_in, bank_in, damaged_check, head_check, solo_check, blocks_check, file_verdict, restore_verdict}
 use Rattle.checks.specs.declared.Setup.{Setup}
-use Rattle.checks.specs.declared.Verdict.TheVariants.{Fine, Refused}
+use Rattle.checks.specs.declared.Refusal.{Refusal}
 use Rattle.checks.specs.Setup.{solo_of, engine}
-use Rattle.checks.specs.Checks.{bank_of}
+use Rattle.checks.specs.Checks.{number_of, bank_of}
 use Rattle.parking.specs.declared.Held.{Held}
-use Rattle.parking.specs.Parking.{setup_in, held_by, restored_by, RestoreDoes}
+use Rattle.parking.specs.Parking.{setup_in, restored_by, RestoreDoes}
 use Rattle.parking.specs.Asks.{FileRead}
 use Rattle.parking.proofs.Reading.{held_refused, setup_checked}
-use Rattle.parking.proofs.Surveying.{says_refused, says_fine, held_setup}
+use Rattle.parking.proofs.Surveying.{says_refused, says_fine, read_again}
 
 -- a refusal: its number, and the lists as they were
-stopped : (file : List ℕ) (v : Check) (k : ℕ) (a : Held) (tg rs ds : List Float) → v ≡ refused k → a ≡ held_by (refused k) file
-    → (a ≡ held_by v file) × (bank_of tg rs ds a.cursor ≡ restored_by v file (bank_of tg rs ds 0))
-unfolding held_by
-stopped file v k a tg rs ds e d =
-    (d ∙ ap (λ (x : Check). held_by x file) (sym e), (λ t. bank_of tg rs ds (d t).cursor) ∙ ap (λ (x : Check). restored_by x file (bank_of tg rs ds 0)) (sym e))
+stopped : (file : List ℕ) (e : Refusal) (tg rs ds : List Float) → restore_verdict file (bank_of tg rs ds 0) ≡ refused (number_of e)
+    → RestoreDoes file (bank_of tg rs ds 0) (Err e) tg rs ds
+stopped file e tg rs ds d = record {
+  answer = held_refused (restore_verdict file (bank_of tg rs ds 0)) file e d;
+  lists = ap (λ (x : Check). restored_by x file (bank_of tg rs ds 0)) (sym d);
+}
 
-module _ (file pos : List ℕ) (h : Held) (f : FileRead file pos h) (tg rs ds : List Float) where
+module _ (file pos : List ℕ) (r : Result Held Refusal) (f : FileRead file pos r) (tg rs ds : List Float) where
   abbrev lent : Bank
   lent = bank_of tg rs ds 0
 
-  pub file_refused : (k : ℕ) → h.verdict ≡ Refused k → RestoreDoes file lent h tg rs ds
+  pub file_refused : (e : Refusal) → r ≡ Err e → RestoreDoes file lent (Err e) tg rs ds
   unfolding restore_verdict ◌then◌
-  file_refused k d =
-      let r : file_verdict file ≡ refused k = says_refused (file_verdict file) file k h f.held d in
-      let s = stopped file (restore_verdict file lent) k h tg rs ds
-      (ap (λ (x : Check). x then store_check_of (solo_in file).channels (ring_in file) (voices_in file) lent) r) (f.held ∙ ap (λ (x : Check). held_by x file) r) in
-      record { answer = s.0; lists = s.1 }
+  file_refused e d =
+      let v : file_verdict file ≡ refused (number_of e) = says_refused (file_verdict file) file e r f.held d in
+      stopped file e tg rs ds (ap (λ (x : Check). x then store_check_of (solo_in file).channels (ring_in file) (voices_in file) lent) v)
 
-  module _ (d : h.verdict ≡ Fine) where
+  module _ (h : Held) (d : r ≡ Ok h) where
     file_fine : file_verdict file ≡ fine
-    file_fine = says_fine (file_verdict file) file h f.held d
+    file_fine = (says_fine (file_verdict file) file h r f.held d).0
+
+    held_is : h ≡ record { setup = setup_in file; cursor = cursor_in file }
+    held_is = (says_fine (file_verdict file) file h r f.held d).1
 
     setup_is : h.setup ≡ setup_in file
-    setup_is = held_setup (file_verdict file) file h f.held file_fine
+    setup_is = ap (λ (x : Held). x.setup) held_is
 
     passed : (solo_check file ≡ fine) × (blocks_check file ≡ fine)
     unfolding file_verdict
@@ -76,10 +79,8 @@ module _ (file pos : List ℕ) (h : Held) (f : FileRead file pos h) (tg rs ds : 
         ∙ sym (λ t. store_check_of (setup_is t).channels (ring_len (setup_is t).rate) (setup_is t).voices lent)
         ∙ sym (λ t. checked t then store_check_of h.setup.channels (ring_len h.setup.rate) h.setup.voices lent)
 
-    pub store_refused : (k : ℕ) (a : Held) → open_verdict (engine h.setup) h.setup.voices lent ≡ refused k → a ≡ held_by (refused k) [] → RestoreDoes file lent a tg rs ds
-    store_refused k a e u =
-        let s = stopped file (restore_verdict file lent) k a tg rs ds (store_decides ∙ e) (held_refused (refused k) file k a u refl) in
-        record { answer = s.0; lists = s.1 }
+    pub store_refused : (e : Refusal) → open_verdict (engine h.setup) h.setup.voices lent ≡ refused (number_of e) → RestoreDoes file lent (Err e) tg rs ds
+    store_refused e u = stopped file e tg rs ds (store_decides ∙ u)
 
     module _ (ok : open_verdict (engine h.setup) h.setup.voices lent ≡ fine) (len : ℕ) (l : len ≡ ring_len h.setup.rate) where
       abbrev v : ℕ
@@ -116,15 +117,14 @@ module _ (file pos : List ℕ) (h : Held) (f : FileRead file pos h) (tg rs ds : 
             delay_length = o.lengths.delay ∙ ap (λ (y : ℕ). s * y) (sym l);
           }
 
-      pub filled : (tg' rs' ds' : List Float) → Restored v s len file tg' rs' ds' → RestoreDoes file lent h tg' rs' ds'
-      unfolding held_by bank_in
-      filled tg' rs' ds' r =
+      pub filled : (tg' rs' ds' : List Float) → Restored v s len file tg' rs' ds' → RestoreDoes file lent (Ok h) tg' rs' ds'
+      unfolding bank_in
+      filled tg' rs' ds' q =
           let w : restore_verdict file lent ≡ fine = store_decides ∙ ok in
-          let a : h ≡ held_by fine file = f.held ∙ ap (λ (x : Check). held_by x file) file_fine in
           record {
-            answer = a ∙ ap (λ (x : Check). held_by x file) (sym w);
+            answer = read_again (restore_verdict file lent) file h w held_is;
             lists =
-                (λ t. bank_of (r.targets_are t) (r.records_are t) (r.delay_are t) (a t).cursor)
+                (λ t. bank_of (q.targets_are t) (q.records_are t) (q.delay_are t) (held_is t).cursor)
                 ∙ sizes
                 ∙ ap (λ (x : Check). restored_by x file lent) (sym w);
           }

@@ -3,9 +3,10 @@ use mathlib.Core.Path.{◌≡◌, refl, sym, ap, ◌∙◌, subst}
 use mathlib.Core.Bool.{Bool, true, false}
 use Prim.Native.Nat.{ℕ, suc, ◌+◌, ◌*◌, ◌/◌, ◌≤◌, ◌<◌}
 use native.Mathlib.Omega.{arith}
-use mathlib.Core.List.{List, []}
+use mathlib.Core.List.{List}
 use lib.ListN.{length, get_or}
 use Rattle.lines.specs.Lines.{ring_len}
+use Rattle.std.specs.Prelude.{Result, Ok, Err}
 use Rattle.voices.specs.Calls.{Check, fine, refused, check, ◌then◌}
 use Rattle.voices.specs.Accepted.{then_fine}
 use Rattle.blocks.specs.Blocks.{parts_of, total}
@@ -13,12 +14,14 @@ use Rattle.places.specs.Places.{place_of, blocks_in, number_at, is_whole}
 use Rattle.places.specs.Survey.{Small, Surveyed}
 use Rattle.setups.specs.Setup.{codes_check_of}
 use Rattle.setups.proofs.Accepted.{SetupAccepted, codes_accepted}
-use Rattle.setups.specs.Parked.{voices_in, slots_in, ring_in, damaged_check, head_check, parked_codes, solo_check, blocks_check, file_verdict}
+use Rattle.setups.specs.Parked.{voices_in, cursor_in, slots_in, ring_in, damaged_check, head_check, parked_codes, solo_check, blocks_check, file_verdict}
 use Rattle.checks.specs.declared.Setup.{Setup}
-use Rattle.checks.specs.declared.Verdict.TheVariants.{Fine, Refused}
+use Rattle.checks.specs.declared.Refusal.{Refusal}
+use Rattle.checks.specs.declared.Refusal.TheVariants.{Blocks}
+use Rattle.checks.specs.Checks.{number_of}
 use Rattle.checks.specs.Setup.{solo_of}
 use Rattle.parking.specs.declared.Held.{Held}
-use Rattle.parking.specs.Parking.{setup_in, held_by}
+use Rattle.parking.specs.Parking.{setup_in, told, held_by}
 use Rattle.parking.specs.Asks.{head_verdict, ClearTable, FileRead}
 use Rattle.parking.proofs.Reading.{held_refused, setup_checked}
 
@@ -35,37 +38,48 @@ file_then file = go (damaged_check file) (head_check file)
     go fine (refused k) = unfold ◌then◌ in refl
     go fine fine = unfold ◌then◌ in refl
 
--- an answer's verdict is the one that it was made by
-pub says_refused : (v : Check) (file : List ℕ) (k : ℕ) (h : Held) → h ≡ held_by v file → h.verdict ≡ Refused k → v ≡ refused k
-unfolding held_by
-says_refused fine file k h e d = cc
-says_refused (refused j) file k h e d = cc
+-- an answer's refusal is that of the verdict that it was made by
+pub says_refused : (v : Check) (file : List ℕ) (e : Refusal) (r : Result Held Refusal) → told r ≡ held_by v file → r ≡ Err e → v ≡ refused (number_of e)
+unfolding told held_by
+says_refused v file e r t d = go v (sym (ap told d) ∙ t)
+  where
+    go : (v : Check) → told (Err e) ≡ held_by v file → v ≡ refused (number_of e)
+    go fine x = cc
+    go (refused k) x = cc
 
-pub says_fine : (v : Check) (file : List ℕ) (h : Held) → h ≡ held_by v file → h.verdict ≡ Fine → v ≡ fine
-unfolding held_by
-says_fine fine file h e d = refl
-says_fine (refused j) file h e d = cc
+-- an answer that was accepted is the file's
+pub says_fine : (v : Check) (file : List ℕ) (h : Held) (r : Result Held Refusal) → told r ≡ held_by v file → r ≡ Ok h
+    → (v ≡ fine) × (h ≡ record { setup = setup_in file; cursor = cursor_in file })
+unfolding told held_by
+says_fine v file h r t d = go v (sym (ap told d) ∙ t)
+  where
+    go : (v : Check) → told (Ok h) ≡ held_by v file → (v ≡ fine) × (h ≡ record { setup = setup_in file; cursor = cursor_in file })
+    go fine x = (refl, (cc))
+    go (refused k) x = ((cc), (cc))
 
-pub held_setup : (v : Check) (file : List ℕ) (h : Held) → h ≡ held_by v file → v ≡ fine → h.setup ≡ setup_in file
-unfolding held_by
-held_setup v file h e f = ap (λ (x : Held). x.setup) (e ∙ ap (λ (x : Check). held_by x file) f)
+pub read_again : (v : Check) (file : List ℕ) (h : Held) → v ≡ fine → h ≡ record { setup = setup_in file; cursor = cursor_in file } → told (Ok h) ≡ held_by v file
+unfolding told held_by
+read_again v file h e d = ap (λ (x : Held). Ok x) d ∙ ap (λ (x : Check). held_by x file) (sym e)
 
-module _ (file : List ℕ) (h : Held) (e : h ≡ held_by (head_verdict file) file) where
-  pub read_refused : (pos : List ℕ) (k : ℕ) → h.verdict ≡ Refused k → FileRead file pos h
+module _ (file : List ℕ) (r : Result Held Refusal) (e : told r ≡ held_by (head_verdict file) file) where
+  pub read_refused : (pos : List ℕ) (k : Refusal) → r ≡ Err k → FileRead file pos (Err k)
   read_refused pos k d =
-      let r : head_verdict file ≡ refused k = says_refused (head_verdict file) file k h e d in
-      let f : file_verdict file ≡ refused k = file_then file ∙ ap (λ (x : Check). x then blocks_check file) r ∙ (unfold ◌then◌ in refl) in
+      let v : head_verdict file ≡ refused (number_of k) = says_refused (head_verdict file) file k r e d in
+      let f : file_verdict file ≡ refused (number_of k) = file_then file ∙ ap (λ (x : Check). x then blocks_check file) v ∙ (unfold ◌then◌ in refl) in
       record {
-        held = e ∙ ap (λ (x : Check). held_by x file) (r ∙ sym f);
-        places = λ g. absurd (not_both k (sym g ∙ f));
+        held = held_refused (file_verdict file) file k f;
+        places = λ g. absurd (not_both (number_of k) (sym g ∙ f));
       }
 
-  module _ (d : h.verdict ≡ Fine) where
+  module _ (h : Held) (d : r ≡ Ok h) where
     head_fine : head_verdict file ≡ fine
-    head_fine = says_fine (head_verdict file) file h e d
+    head_fine = (says_fine (head_verdict file) file h r e d).0
+
+    held_is : h ≡ record { setup = setup_in file; cursor = cursor_in file }
+    held_is = (says_fine (head_verdict file) file h r e d).1
 
     setup_is : h.setup ≡ setup_in file
-    setup_is = held_setup (head_verdict file) file h e head_fine
+    setup_is = ap (λ (x : Held). x.setup) held_is
 
     checked : codes_check_of parked_codes (solo_of h.setup) h.setup.voices ≡ fine
     unfolding head_verdict
@@ -109,26 +123,25 @@ module _ (file : List ℕ) (h : Held) (e : h ≡ held_by (head_verdict file) fil
       unfolding setup_in
       sizes_are P x = subst (λ (y : Setup). P y.voices (y.channels * y.voices) (parts_of (ring_len y.rate))) setup_is (subst (λ (y : ℕ). P v s y) parts_is x)
 
-      module _ (pos : List ℕ) (r : Bool) (q : Surveyed v s p file pos r) where
-        whole_is : r ≡ is_whole (voices_in file) (slots_in file) (parts_of (ring_in file)) file
-        whole_is = sizes_are (λ a b c. r ≡ is_whole a b c file) q.decides
+      module _ (pos : List ℕ) (found : Bool) (q : Surveyed v s p file pos found) where
+        whole_is : found ≡ is_whole (voices_in file) (slots_in file) (parts_of (ring_in file)) file
+        whole_is = sizes_are (λ a b c. found ≡ is_whole a b c file) q.decides
 
-        file_is : file_verdict file ≡ check r 13
+        file_is : file_verdict file ≡ check found 13
         file_is = file_then file ∙ ap (λ (x : Check). x then blocks_check file) head_fine ∙ (unfold ◌then◌ in ap (λ (t : Bool). check t 13) (sym whole_is))
 
-        pub read_missing : (a : Held) → a ≡ held_by (refused 13) [] → r ≡ false → FileRead file pos a
-        read_missing a u t =
+        pub read_missing : found ≡ false → FileRead file pos (Err Blocks)
+        read_missing t =
             let f : file_verdict file ≡ refused 13 = file_is ∙ ap (λ (x : Bool). check x 13) t ∙ (unfold check in refl) in
             record {
-              held = held_refused (file_verdict file) file 13 a u f;
+              held = held_refused (file_verdict file) file Blocks f;
               places = λ g. absurd (not_both 13 (sym g ∙ f));
             }
 
-        pub read_whole : r ≡ true → FileRead file pos h
+        pub read_whole : found ≡ true → FileRead file pos (Ok h)
         read_whole t =
-            let w : r ≡ true = t in
-            let f : file_verdict file ≡ fine = file_is ∙ ap (λ (x : Bool). check x 13) w ∙ (unfold check in refl) in
+            let f : file_verdict file ≡ fine = file_is ∙ ap (λ (x : Bool). check x 13) t ∙ (unfold check in refl) in
             record {
-              held = e ∙ ap (λ (x : Check). held_by x file) (head_fine ∙ sym f);
-              places = λ g. sizes_are (λ a b c. (k : ℕ) → k < total a b c → get_or pos k 0 ≡ suc (place_of (number_at a b c file) k (blocks_in file))) (q.places w);
+              held = read_again (file_verdict file) file h f held_is;
+              places = λ g. sizes_are (λ a b c. (k : ℕ) → k < total a b c → get_or pos k 0 ≡ suc (place_of (number_at a b c file) k (blocks_in file))) (q.places t);
             }

@@ -1,6 +1,6 @@
 -- For the proofs: nothing here must be believed.
 -- What the functions of parking ask and promise each other. Definitions only.
-use Rattle.std.specs.Prelude.{◌≡◌, true, false, List, ◌++◌, ℕ, suc, ◌+◌, ◌-◌, ◌<◌, ltb, leb, length, get_or, replicate, Float}
+use Rattle.std.specs.Prelude.{◌≡◌, true, false, List, ◌++◌, ℕ, suc, ◌+◌, ◌-◌, ◌<◌, ltb, leb, length, get_or, replicate, Float, Result}
 use Rattle.lane.specs.Floats.{◌‼◌, zero}
 use Rattle.parts.specs.Parts.{tab}
 use Rattle.text.specs.Text.{bits_of}
@@ -10,8 +10,9 @@ use Rattle.blocks.specs.Blocks.{head_of, parts_of, total}
 use Rattle.places.specs.Places.{pick, place_of, blocks_in, head_in, is_once, number_at}
 use Rattle.pole_zero.specs.declared.Table.{Table}
 use Rattle.setups.specs.Parked.{setup_word, voices_in, slots_in, ring_in, damaged_check, head_check, solo_check, file_verdict}
+use Rattle.checks.specs.declared.Refusal.{Refusal}
 use Rattle.parking.specs.declared.Held.{Held}
-use Rattle.parking.specs.Parking.{held_by}
+use Rattle.parking.specs.Parking.{told, held_by}
 
 -- word i of kind 1: the nine in front, the table's numbers, its gain
 unfoldable pub word_from : List ℕ → List Float → ℕ → ℕ → ℕ
@@ -46,7 +47,7 @@ pub record ClearTable (pos : List ℕ) : Type 0 where
   pub clear : (k : ℕ) → k < 16722 → get_or pos k 0 ≡ 0
 
 -- the file's answer but for 6, and where its blocks stand if it is accepted
-pub record FileRead (file pos : List ℕ) (r : Held) : Type 0 where
-  pub held : r ≡ held_by (file_verdict file) file
+pub record FileRead (file pos : List ℕ) (r : Result Held Refusal) : Type 0 where
+  pub held : told r ≡ held_by (file_verdict file) file
   pub places : file_verdict file ≡ fine → (k : ℕ) → k < total (voices_in file) (slots_in file) (parts_of (ring_in file))
       → get_or pos k 0 ≡ suc (place_of (number_at (voices_in file) (slots_in file) (parts_of (ring_in file)) file) k (blocks_in file))

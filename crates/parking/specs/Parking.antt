@@ -1,15 +1,13 @@
 -- What park, restore and their companions promise (document 02, C-12, C-17, C-18), over the file of setups/specs/Parked. Definitions only.
-use Rattle.std.specs.Prelude.{◌≡◌, false, List, [], ℕ, Float, length, replicate}
-use Rattle.lane.specs.Floats.{zero}
+use Rattle.std.specs.Prelude.{◌≡◌, List, ℕ, Float, length, Result, Ok, Err}
 use Rattle.voices.specs.Calls.{Check, fine, refused, Bank, call_park, file_length, verdict, call}
 use Rattle.setups.specs.Setup.{setup_check_of}
-use Rattle.setups.specs.Parked.{parked_file, no_chord, solo_in, voices_in, cursor_in, bank_in, restore_verdict, Holds}
+use Rattle.setups.specs.Parked.{parked_file, solo_in, voices_in, cursor_in, bank_in, restore_verdict, Holds}
 use Rattle.checks.specs.declared.Setup.{Setup}
 use Rattle.checks.specs.Setup.{solo_of, engine}
-use Rattle.checks.specs.declared.Verdict.TheVariants.{Fine, Refused}
-use Rattle.checks.specs.Checks.{bank_of}
-use Rattle.bank.specs.declared.Answer.{Answer as CodeAnswer}
-use Rattle.bank.specs.Bank.{before, after}
+use Rattle.checks.specs.declared.Refusal.{Refusal}
+use Rattle.checks.specs.Checks.{number_of, bank_of}
+use Rattle.bank.specs.Bank.{answer_of, before, after}
 use Rattle.parking.specs.declared.Held.{Held}
 
 -- ---- park
@@ -31,8 +29,8 @@ abbrev pub park_verdict : Setup → Bank → (list : List ℕ) → Check
 park_verdict s b list = verdict (engine s) s.voices (call_park (length list)) b
 
 -- the bank stays as it was, and what was written holds it
-pub record ParkDoes (s : Setup) (b : Bank) (list : List ℕ) (r : CodeAnswer) (list' : List ℕ) : Type 0 where
-  pub does : after r b.cursor b.targets b.records b.delay [] [] ≡ call (engine s) s.voices (call_park (length list)) (before b)
+pub record ParkDoes (s : Setup) (b : Bank) (list : List ℕ) (r : Result ℕ Refusal) (list' : List ℕ) : Type 0 where
+  pub does : after (answer_of r) b.cursor b.targets b.records b.delay ≡ call (engine s) s.voices (call_park (length list)) (before b)
   pub written : list' ≡ written_by (park_verdict s b list) s b list
   pub holds : park_verdict s b list ≡ fine → Holds list' (solo_of s) s.voices b
 
@@ -51,29 +49,26 @@ setup_in file = record {
   chord = (solo_in file).chord;
 }
 
--- the setup in a refused file's place
-unfoldable pub blank_setup : Setup
-blank_setup = record {
-  code = 0;
-  rate = zero;
-  reference = zero;
-  voices = 0;
-  channels = 0;
-  clean = false;
-  table = record { active = 0; three = false; sections = replicate 320 zero; gain = zero };
-  chord = no_chord;
-}
+-- what the reader's code answers, a refusal by its number
+unfoldable pub told : Result Held Refusal → Result Held ℕ
+told (Ok h) = Ok h
+told (Err e) = Err (number_of e)
 
 -- the answer: setup and cursor, or the refusal's number
-unfoldable pub held_by : Check → List ℕ → Held
-held_by fine file = record { verdict = Fine; setup = setup_in file; cursor = cursor_in file }
-held_by (refused k) file = record { verdict = Refused k; setup = blank_setup; cursor = 0 }
+unfoldable pub held_by : Check → List ℕ → Result Held ℕ
+held_by fine file = Ok (record { setup = setup_in file; cursor = cursor_in file })
+held_by (refused k) file = Err k
+
+-- the cursor that goes with the lists: the file's, or refused, the one given
+abbrev pub cursor_or : Result Held Refusal → ℕ → ℕ
+cursor_or (Ok h) given = h.cursor
+cursor_or (Err e) given = given
 
 -- the lists that are left: the file's, or refused, as they were
 abbrev pub restored_by : Check → List ℕ → (lent : Bank) → Bank
 restored_by fine file lent = bank_in file
 restored_by (refused k) file lent = lent
 
-pub record RestoreDoes (file : List ℕ) (lent : Bank) (r : Held) (targets records delay : List Float) : Type 0 where
-  pub answer : r ≡ held_by (restore_verdict file lent) file
-  pub lists : bank_of targets records delay r.cursor ≡ restored_by (restore_verdict file lent) file lent
+pub record RestoreDoes (file : List ℕ) (lent : Bank) (r : Result Held Refusal) (targets records delay : List Float) : Type 0 where
+  pub answer : told r ≡ held_by (restore_verdict file lent) file
+  pub lists : bank_of targets records delay (cursor_or r lent.cursor) ≡ restored_by (restore_verdict file lent) file lent

@@ -5,29 +5,21 @@ ghost use Rattle.std.specs.Prelude.{◌≡◌, ◌&&◌, [], ◌%◌, ◌≤◌,
 ghost use Rattle.std.specs.Float.{binary32};
 ghost use Rattle.std.specs.Float.Ieee.{fits};
 ghost use Rattle.text.specs.Text.{bits_of};
-ghost use Rattle.voices.specs.Calls.{refused};
 ghost use Rattle.rows.specs.Asks.{F32s};
 ghost use Rattle.setups.specs.Back.{F32Setup};
 ghost use Rattle.places.specs.Places.{sound_file};
-ghost use Rattle.setups.specs.Parked.{clean_word, setup_words, no_chord, setup_word, cursor_in, file_verdict};
+ghost use Rattle.setups.specs.Parked.{setup_words, setup_word, cursor_in, file_verdict};
 ghost use Rattle.checks.specs.Setup.{solo_of};
 ghost use Rattle.checks.specs.Checks.{bank_of};
-ghost use Rattle.parking.specs.Parking.{park_length, ParkDoes, setup_in, held_by, RestoreDoes};
+ghost use Rattle.parking.specs.Parking.{park_length, ParkDoes, setup_in, told, held_by, RestoreDoes};
 ghost use Rattle.parking.specs.Asks.{word_from, words_from, SetupAt, sections_in, table_in, setup_verdict, head_verdict, ClearTable, FileRead};
 
-use bank::Answer;
-use checks::{Setup, Verdict};
+use checks::{Refusal, Setup};
 use extended::Chord;
-use places::{Place, Sizes};
+use places::Sizes;
 use pole_zero::Table;
 
 // ---- parking
-
-fn clean_word(clean: bool) -> u32
-    ensures { result ≡ clean_word clean }
-{
-    if clean { 1 } else { 0 }
-}
 
 // An f32 as a word; it is an f32.
 fn word_of(x: f32) -> u32
@@ -56,10 +48,8 @@ fn words_from(front: &[u32], sections: &[f32], gain: u32, words: &mut [u32])
     ensures { (words.new ≡ words_from front.now sections.now gain)
         × F32s sections.now × (length sections.now ≡ 320) }
 {
-    let mut i = 0;
-    while i < 170 {
+    for i in 0..170usize {
         words[i] = word_from(front, sections, gain, i);
-        i += 1;
     }
 }
 
@@ -74,7 +64,7 @@ fn setup_words(setup: Setup, cursor: usize, words: &mut [u32])
         setup.code,
         setup.voices as u32,
         setup.channels as u32,
-        clean_word(setup.clean),
+        u32::from(setup.clean),
         word_of(setup.rate),
         word_of(setup.reference),
         (cursor % 4294967296) as u32,
@@ -88,11 +78,10 @@ fn setup_words(setup: Setup, cursor: usize, words: &mut [u32])
 pub fn park_len(setup: Setup) -> usize
     ensures { result ≡ park_length setup }
 {
-    let checked = checks::setup_check(setup);
-    if let Verdict::Refused(_) = checked {
-        return 0;
+    match checks::setup_check(setup) {
+        Ok(()) => checks::file_length(setup),
+        Err(_) => 0,
     }
-    checks::file_length(setup)
 }
 
 // Writes a bank to a file, and answers the cursor.
@@ -103,14 +92,11 @@ pub fn park(
     records: &[f32],
     delay: &[f32],
     file: &mut [u8],
-) -> Answer
+) -> Result<usize, Refusal>
     ensures { ParkDoes setup (bank_of targets.now records.now delay.now cursor)
         file.old result file.new }
 {
-    let checked = checks::park_check(setup, targets, records, delay, file.len());
-    if let Verdict::Refused(n) = checked {
-        return Answer::Refused(n);
-    }
+    checks::park_check(setup, targets, records, delay, file.len())?;
     let mut words = [0u32; 170];
     setup_words(setup, cursor, &mut words);
     let mut content = [0u32; 126];
@@ -127,7 +113,7 @@ pub fn park(
         delay,
         &mut content,
     );
-    Answer::Kept(cursor)
+    Ok(cursor)
 }
 
 // ---- restoring
@@ -150,24 +136,10 @@ fn read_sections(file: &[u8], a: usize, b: usize) -> [f32; 320]
     ensures { result ≡ sections_in file.now }
 {
     let mut sections = [0.0f32; 320];
-    let mut i = 0;
-    while i < 160 {
+    for i in 0..160usize {
         sections[i] = text::float_of(file_word(file, a, b, 9 + i));
-        i += 1;
     }
     sections
-}
-
-fn wide(w: u32) -> usize
-    ensures { (result ≡ w) × (result ≤ 4294967295) }
-{
-    w as usize
-}
-
-fn is_one(w: u32) -> bool
-    ensures { result ≡ eqb w 1 }
-{
-    w == 1
 }
 
 fn read_table(file: &[u8], a: usize, b: usize) -> Table
@@ -178,20 +150,10 @@ fn read_table(file: &[u8], a: usize, b: usize) -> Table
     let sections = read_sections(file, a, b);
     let gain = text::float_of(file_word(file, a, b, 169));
     Table {
-        active: active,
+        active,
         three: false,
-        sections: sections,
-        gain: gain,
-    }
-}
-
-// A file has no words for a chord (C-18).
-fn no_chord() -> Chord
-    ensures { result ≡ no_chord }
-{
-    Chord {
-        count: 0,
-        offsets: [0.0; 8],
+        sections,
+        gain,
     }
 }
 
@@ -199,160 +161,116 @@ fn read_cursor(file: &[u8], a: usize, b: usize) -> usize
     requires { SetupAt file.now a b }
     ensures { result ≡ cursor_in file.now }
 {
-    wide(file_word(file, a, b, 6)) + wide(file_word(file, a, b, 7)) * 4294967296
+    file_word(file, a, b, 6) as usize + file_word(file, a, b, 7) as usize * 4294967296
 }
 
+// A file has no words for a chord (C-18).
 fn read_setup(file: &[u8], a: usize, b: usize) -> Setup
     requires { SetupAt file.now a b }
     ensures { result ≡ setup_in file.now }
 {
     let code = file_word(file, a, b, 0);
-    let voices = wide(file_word(file, a, b, 1));
-    let channels = wide(file_word(file, a, b, 2));
-    let clean = is_one(file_word(file, a, b, 3));
+    let voices = file_word(file, a, b, 1) as usize;
+    let channels = file_word(file, a, b, 2) as usize;
+    let clean = file_word(file, a, b, 3) == 1;
     let rate = text::float_of(file_word(file, a, b, 4));
     let reference = text::float_of(file_word(file, a, b, 5));
     let table = read_table(file, a, b);
     Setup {
-        code: code,
-        rate: rate,
-        reference: reference,
-        voices: voices,
-        channels: channels,
-        clean: clean,
-        table: table,
-        chord: no_chord(),
+        code,
+        rate,
+        reference,
+        voices,
+        channels,
+        clean,
+        table,
+        chord: Chord {
+            count: 0,
+            offsets: [0.0; 8],
+        },
     }
 }
 
-// What the checks of a file come to, and the setup and the cursor that it holds; of a refused file all zero.
+// The setup and the cursor that a file holds.
 #[derive(Clone, Copy)]
 pub struct Held {
-    pub verdict: Verdict,
     pub setup: Setup,
     pub cursor: usize,
-}
-
-fn refused_file(number: u32) -> Held
-    ensures { result ≡ held_by (refused number) [] }
-{
-    let table = Table {
-        active: 0,
-        three: false,
-        sections: [0.0; 320],
-        gain: 0.0,
-    };
-    let setup = Setup {
-        code: 0,
-        rate: 0.0,
-        reference: 0.0,
-        voices: 0,
-        channels: 0,
-        clean: false,
-        table: table,
-        chord: no_chord(),
-    };
-    Held {
-        verdict: Verdict::Refused(number),
-        setup: setup,
-        cursor: 0,
-    }
 }
 
 // Whole blocks whose words sum to zero; else 12.
 fn is_sound(file: &[u8]) -> bool
     ensures { result ≡ eqb (length file.now % 512) 0 && sound_file file.now }
 {
-    if file.len() % 512 != 0 {
-        return false;
-    }
-    places::sound_file(file)
+    file.len() % 512 == 0 && places::sound_file(file)
 }
 
 // 13 of the clean word, then the setup's 1 to 5, where 12 is the highest code (C-18).
-fn read_at(file: &[u8], a: usize, b: usize) -> Held
+fn read_at(file: &[u8], a: usize, b: usize) -> Result<Held, Refusal>
     requires { SetupAt file.now a b }
-    ensures { result ≡ held_by (setup_verdict file.now) file.now }
+    ensures { told result ≡ held_by (setup_verdict file.now) file.now }
 {
     if file_word(file, a, b, 3) > 1 {
-        return refused_file(13);
+        return Err(Refusal::Blocks);
     }
     let setup = read_setup(file, a, b);
-    let checked = checks::codes_check(setup, 12);
-    if let Verdict::Refused(n) = checked {
-        return refused_file(n);
-    }
-    Held {
-        verdict: Verdict::Fine,
-        setup: setup,
-        cursor: read_cursor(file, a, b),
-    }
+    checks::codes_check(setup, 12)?;
+    let cursor = read_cursor(file, a, b);
+    Ok(Held { setup, cursor })
 }
 
 // 12, 13 of the setup's blocks, 1 to 5.
-fn read_head(file: &[u8]) -> Held
-    ensures { result ≡ held_by (head_verdict file.now) file.now }
+fn read_head(file: &[u8]) -> Result<Held, Refusal>
+    ensures { told result ≡ held_by (head_verdict file.now) file.now }
 {
     if !is_sound(file) {
-        return refused_file(12);
+        return Err(Refusal::Damaged);
     }
-    let first = places::sole(file, 1);
-    let Place::At(a) = first else {
-        return refused_file(13);
-    };
-    let second = places::sole(file, 65537);
-    let Place::At(b) = second else {
-        return refused_file(13);
-    };
+    let a = places::sole(file, 1).ok_or(Refusal::Blocks)?;
+    let b = places::sole(file, 65537).ok_or(Refusal::Blocks)?;
     read_at(file, a, b)
 }
 
 // Those, then 13 of the other blocks. `places` becomes where each block that the setup calls for stands, plus 1.
-fn read_file(file: &[u8], places: &mut [u16]) -> Held
+fn read_file(file: &[u8], places: &mut [u16]) -> Result<Held, Refusal>
     requires { ClearTable places.old }
     ensures { FileRead file.now places.new result }
 {
-    let head = read_head(file);
-    let checked = head.verdict;
-    if let Verdict::Refused(_) = checked {
-        return head;
-    }
-    let setup = head.setup;
+    let held = read_head(file)?;
+    let setup = held.setup;
     let sizes = Sizes {
         voices: setup.voices,
         slots: setup.channels * setup.voices,
         parts: (lines::ring_len(setup.rate) + 125) / 126,
     };
     if !places::survey(file, sizes, places) {
-        return refused_file(13);
+        return Err(Refusal::Blocks);
     }
-    head
+    Ok(held)
 }
 
 // The setup and the cursor of a file, for a host that is to lend lists: the checks of restore but 6.
-pub fn parked_setup(file: &[u8]) -> Held
-    ensures { result ≡ held_by (file_verdict file.now) file.now }
+pub fn parked_setup(file: &[u8]) -> Result<Held, Refusal>
+    ensures { told result ≡ held_by (file_verdict file.now) file.now }
 {
     let mut places = [0u16; 16722];
     read_file(file, &mut places)
 }
 
 // Reads a bank from a file, and answers its setup and cursor.
-pub fn restore(file: &[u8], targets: &mut [f32], records: &mut [f32], delay: &mut [f32]) -> Held
+pub fn restore(
+    file: &[u8],
+    targets: &mut [f32],
+    records: &mut [f32],
+    delay: &mut [f32],
+) -> Result<Held, Refusal>
     ensures { RestoreDoes file.now (bank_of targets.old records.old delay.old 0)
         result targets.new records.new delay.new }
 {
     let mut places = [0u16; 16722];
-    let held = read_file(file, &mut places);
-    let checked = held.verdict;
-    if let Verdict::Refused(_) = checked {
-        return held;
-    }
+    let held = read_file(file, &mut places)?;
     let setup = held.setup;
-    let stored = checks::open_check(setup, targets, records, delay);
-    if let Verdict::Refused(n) = stored {
-        return refused_file(n);
-    }
+    checks::open_check(setup, targets, records, delay)?;
     let len = lines::ring_len(setup.rate);
     files::restore_lists(
         file,
@@ -365,5 +283,5 @@ pub fn restore(file: &[u8], targets: &mut [f32], records: &mut [f32], delay: &mu
         records,
         delay,
     );
-    held
+    Ok(held)
 }

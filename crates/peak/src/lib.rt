@@ -11,13 +11,7 @@ ghost use Rattle.peak.specs.Running.{is_plain, running_of, settled_of, Runs};
 pub fn is_plain(peak: f32) -> bool
     ensures { (result ≡ is_plain peak) × (Runs peak (running_of peak)) × (settled_of peak (running_of peak) ≡ peak) }
 {
-    if peak < 0.0 {
-        return false;
-    }
-    if peak != peak {
-        return false;
-    }
-    !lane::is_minus_zero(peak)
+    !(peak < 0.0 || peak.is_nan() || lane::is_minus_zero(peak))
 }
 
 // The larger of two, by one comparison.
@@ -39,7 +33,10 @@ pub fn settled(peak: f32, running: f32) -> f32
     ensures { result ≡ settled_of peak running }
 {
     if running < 0.0 {
-        return peak;
+        peak
+    } else if 0.0 < running {
+        running
+    } else {
+        0.0
     }
-    if 0.0 < running { running } else { 0.0 }
 }

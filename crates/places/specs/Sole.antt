@@ -1,13 +1,7 @@
 -- For the proofs: nothing here must be believed.
 -- Where a block with a given head stands, if one alone does: `sole`'s answer. Definitions only.
-use Rattle.std.specs.Prelude.{ℕ, Bool, true, false, List, eqb}
+use Rattle.std.specs.Prelude.{ℕ, List, Option, Some, None, cond, eqb}
 use Rattle.places.specs.Places.{count, place_of, head_in, blocks_in}
-use Rattle.places.specs.declared.Place.{Place}
-use Rattle.places.specs.declared.Place.TheVariants.{At, Not}
 
-abbrev pub if_one : Bool → Place → Place
-if_one true x = x
-if_one false x = Not
-
-unfoldable pub sole_of : List ℕ → ℕ → Place
-sole_of file head = if_one (eqb (count (head_in file) head (blocks_in file)) 1) (At (place_of (head_in file) head (blocks_in file)))
+unfoldable pub sole_of : List ℕ → ℕ → Option ℕ
+sole_of file head = cond (eqb (count (head_in file) head (blocks_in file)) 1) (Some (place_of (head_in file) head (blocks_in file))) None

@@ -1,6 +1,6 @@
 -- For the proofs: nothing here must be believed.
 -- What the reader's survey of a file promises: it decides `exactly`, and where that holds its table has the places, each plus 1. Definitions only.
-use Rattle.std.specs.Prelude.{◌≡◌, Bool, true, false, ℕ, suc, ◌*◌, ◌≤◌, ◌<◌, List, ltb, length, get_or}
+use Rattle.std.specs.Prelude.{◌≡◌, Bool, true, false, ℕ, suc, ◌*◌, ◌≤◌, ◌<◌, List, length, get_or}
 use Rattle.places.specs.Places.{exactly, place_of}
 use Rattle.places.specs.Marks.{Marked}
 use Rattle.blocks.specs.Blocks.{total}
@@ -11,10 +11,6 @@ pub record Entered (f : ℕ → ℕ) (N n : ℕ) (pos : List ℕ) (r : Bool) : T
   pub marked : r ≡ true → Marked f n N pos
   pub refused : r ≡ false → exactly f N n ≡ false
   pub size : n ≤ length pos
-
--- entry k is not clear
-abbrev pub entered : List ℕ → ℕ → Bool
-entered pos k = ltb 0 (get_or pos k 0)
 
 pub record Surveyed (v s p : ℕ) (file pos : List ℕ) (r : Bool) : Type 0 where
   pub decides : r ≡ exactly (number_at v s p file) (blocks_in file) (total v s p)

@@ -1,14 +1,11 @@
 // The reader's survey of a file: whether every block that the setup calls for stands exactly once and no other does, and where each stands.
 #![tactic(auto)]
 
-ghost use Rattle.std.specs.Prelude.{◌≡◌, ◌&&◌, ℕ, ◌+◌, ◌*◌, ◌≤◌, ◌<◌, eqb, length, get_or};
-ghost use Rattle.places.specs.Places.{pick, tally, every};
+ghost use Rattle.std.specs.Prelude.{◌≡◌, ◌≢◌, ◌↔◌, IsTrue, ◌&&◌, ℕ, ◌+◌, ◌*◌, ◌≤◌, ◌<◌, eqb, length, get_or};
 ghost use Rattle.blocks.specs.Blocks.{total};
-ghost use Rattle.places.specs.Places.{index_of, number_at};
+ghost use Rattle.places.specs.Places.{blocks_in, index_of, number_at, sound_file};
 ghost use Rattle.places.specs.Sole.{sole_of};
-ghost use Rattle.places.specs.Places.{sound_file};
-ghost use Rattle.places.specs.Survey.{Small, Entered, Surveyed, entered};
-ghost use Rattle.places.specs.Places.{blocks_in};
+ghost use Rattle.places.specs.Survey.{Small, Entered, Surveyed};
 
 // A setup's blocks: voices, slots, parts of a ring.
 #[derive(Clone, Copy)]
@@ -18,80 +15,48 @@ pub struct Sizes {
     pub parts: usize,
 }
 
-// Where a block stands, if one alone has its head.
-#[derive(Clone, Copy)]
-pub enum Place {
-    At(usize),
-    Not,
-}
-
-// `n` where `yes`, else `other`.
-fn pick(yes: bool, n: usize, other: usize) -> usize
-    ensures { result ≡ pick yes n other }
-{
-    if yes { n } else { other }
-}
-
-fn wide(w: u32) -> usize
-    ensures { (result ≡ w) × (result ≤ 4294967295) }
-{
-    w as usize
-}
-
-fn short(n: usize) -> u16
-    requires { n ≤ 65535 }
-    ensures { result ≡ n }
-{
-    n as u16
-}
-
-fn both(a: bool, b: bool) -> bool
-    ensures { result ≡ a && b }
-{
-    if a { b } else { false }
+impl Sizes {
+    // How many blocks the setup calls for.
+    fn total(self) -> usize
+        requires { Small self.voices self.slots self.parts }
+        ensures { result ≡ total self.voices self.slots self.parts }
+    {
+        2 + self.voices + self.slots + self.slots * self.parts
+    }
 }
 
 // The number of a head, the total for one that is not called for.
-fn index_of(z: Sizes, head: usize) -> usize
-    requires small { Small z.voices z.slots z.parts }
-    requires head_bound { head ≤ 4294967295 }
+#[tactic(auto, using(std::proofs::lemmas::Bool::Decides::nat_tests, crate::proofs::Entering::index_is), unfolding(crate::specs::Places::number_of))]
+fn index_of(z: Sizes, head: u32) -> usize
+    requires { Small z.voices z.slots z.parts }
     ensures { result ≡ index_of z.voices z.slots z.parts head }
 {
+    let head = head as usize;
     let who = head / 256 % 256;
     let part = head / 65536;
-    let total = 2 + z.voices + z.slots + z.slots * z.parts;
     match head % 256 {
-        1 => pick(both(who == 0, part < 2), part, total),
-        2 => pick(both(who < z.voices, part == 0), 2 + who, total),
-        3 => pick(both(who < z.slots, part == 0), 2 + z.voices + who, total),
-        4 => pick(
-            both(who < z.slots, part < z.parts),
-            2 + z.voices + z.slots + (who * z.parts + part),
-            total,
-        ),
-        _ => total,
+        1 if who == 0 && part < 2 => part,
+        2 if who < z.voices && part == 0 => 2 + who,
+        3 if who < z.slots && part == 0 => 2 + z.voices + who,
+        4 if who < z.slots && part < z.parts => 2 + z.voices + z.slots + who * z.parts + part,
+        _ => z.total(),
     }
 }
 
 // Enters every block in the table; whether all are called for and none is doubled.
-fn mark_all(file: &[u8], z: Sizes, n: usize, pos: &mut [u16]) -> bool
+fn mark_all(file: &[u8], z: Sizes, pos: &mut [u16]) -> bool
     requires small { Small z.voices z.slots z.parts }
-    requires fits { (n ≡ total z.voices z.slots z.parts) × (n ≤ length pos.old) × (blocks_in file.now ≤ 65535) }
-    requires clear { (k : ℕ) → k < n → get_or pos.old k 0 ≡ 0 }
-    ensures { Entered (number_at z.voices z.slots z.parts file.now) (blocks_in file.now) n pos.new result }
+    requires fits { (total z.voices z.slots z.parts ≤ length pos.old) × (blocks_in file.now ≤ 65535) }
+    requires clear { (k : ℕ) → k < total z.voices z.slots z.parts → get_or pos.old k 0 ≡ 0 }
+    ensures { Entered (number_at z.voices z.slots z.parts file.now) (blocks_in file.now) (total z.voices z.slots z.parts) pos.new result }
 {
-    let blocks = file.len() / 512;
-    let mut b = 0;
-    while b < blocks {
-        let k = index_of(z, wide(file_words::get_word(file, b * 128)));
-        if k >= n {
+    let n = z.total();
+    for b in 0..file.len() / 512 {
+        let k = index_of(z, file_words::get_word(file, b * 128));
+        if k >= n || pos[k] != 0 {
             return false;
         }
-        if pos[k] != 0 {
-            return false;
-        }
-        pos[k] = short(b + 1);
-        b += 1;
+        pos[k] = (b + 1) as u16;
     }
     true
 }
@@ -99,16 +64,9 @@ fn mark_all(file: &[u8], z: Sizes, n: usize, pos: &mut [u16]) -> bool
 // Whether none of the first `n` entries is clear.
 fn full(pos: &[u16], n: usize) -> bool
     requires { n ≤ length pos.now }
-    ensures { result ≡ every (entered pos.now) n }
+    ensures { IsTrue result ↔ ((k : ℕ) → k < n → get_or pos.now k 0 ≢ 0) }
 {
-    let mut k = 0;
-    while k < n {
-        if pos[k] == 0 {
-            return false;
-        }
-        k += 1;
-    }
-    true
+    pos[..n].iter().all(|p| *p != 0)
 }
 
 // Whether every block called for stands exactly once and no other does; `pos` then has where each stands, plus 1.
@@ -118,62 +76,33 @@ pub fn survey(file: &[u8], z: Sizes, pos: &mut [u16]) -> bool
     requires clear { (k : ℕ) → k < total z.voices z.slots z.parts → get_or pos.old k 0 ≡ 0 }
     ensures { Surveyed z.voices z.slots z.parts file.now pos.new result }
 {
-    let n = 2 + z.voices + z.slots + z.slots * z.parts;
-    if file.len() / 512 != n {
-        return false;
-    }
-    if !mark_all(file, z, n, pos) {
-        return false;
-    }
-    full(pos, n)
+    let n = z.total();
+    file.len() / 512 == n && mark_all(file, z, pos) && full(pos, n)
 }
 
-fn same(a: u32, b: u32) -> bool
-    ensures { result ≡ eqb a b }
-{
-    a == b
-}
-
-fn tally(yes: bool, n: usize) -> usize
-    requires { n < 18446744073709551615 }
-    ensures { (result ≡ tally yes n) × (result ≤ n + 1) }
-{
-    if yes { n + 1 } else { n }
-}
-
-// The block with this head, if it stands exactly once.
-pub fn sole(file: &[u8], head: u32) -> Place
+// Where the block with this head stands, if it stands exactly once.
+pub fn sole(file: &[u8], head: u32) -> Option<usize>
     ensures { result ≡ sole_of file.now head }
 {
-    let blocks = file.len() / 512;
-    let mut seen = 0;
+    let mut seen: usize = 0;
     let mut at = 0;
-    let mut b = 0;
-    while b < blocks {
-        let hit = same(file_words::get_word(file, b * 128), head);
-        seen = tally(hit, seen);
-        at = pick(hit, b, at);
-        b += 1;
+    for b in 0..file.len() / 512 {
+        if file_words::get_word(file, b * 128) == head {
+            seen += 1;
+            at = b;
+        }
     }
-    if seen == 1 {
-        return Place::At(at);
-    }
-    Place::Not
+    if seen == 1 { Some(at) } else { None }
 }
 
 // Whether the words of every block sum to zero.
 pub fn sound_file(file: &[u8]) -> bool
     ensures { result ≡ sound_file file.now }
 {
-    let blocks = file.len() / 512;
-    let mut b = 0;
-    while b < blocks {
-        let start = b * 512;
-        let end = start + 512;
-        if !blocks::sound_block(&file[start..end]) {
+    for b in 0..file.len() / 512 {
+        if !blocks::sound_block(&file[b * 512..b * 512 + 512]) {
             return false;
         }
-        b += 1;
     }
     true
 }

@@ -5,6 +5,8 @@ ghost use Rattle.std.specs.Prelude.{◌≡◌, Bool, List};
 ghost use Rattle.points.specs.Points.{default_point, clamp_or, clamped_kind, clamped, new_section, section_of_kind, section_of, values, bypass_at};
 ghost use Rattle.points.specs.Points.{between, section_between, is_bypass, default_state};
 
+use std::f32::consts::FRAC_1_SQRT_2;
+
 // The lowest and highest point frequency, in hertz.
 const FREQUENCY_LOW: f32 = 8.0;
 
@@ -20,8 +22,6 @@ const POINT_GAIN_DB: f32 = 18.0;
 
 // The frequency, at A4 = 440 Hz, of the cutoff pitch 68.4, at which points sit at their drawn frequencies.
 const NEUTRAL_HZ: f32 = 425.012;
-
-const FRAC_1_SQRT_2: f32 = 0.707106781186547524400844362104849039;
 
 // What a point does: a bell has its gain in decibels, a free point its zero's frequency and Q.
 #[derive(Clone, Copy)]
@@ -64,10 +64,11 @@ pub struct State {
 pub fn clamp_or(v: f32, lo: f32, hi: f32, or: f32) -> f32
     ensures { result ≡ clamp_or v lo hi or }
 {
-    if v != v {
-        return or;
+    if v.is_nan() {
+        or
+    } else {
+        lane::clamp(v, lo, hi)
     }
-    lane::clamp(v, lo, hi)
 }
 
 // A section's number at z, between a at z = 0 and b at z = 1.
@@ -82,10 +83,7 @@ impl PointKind {
     pub fn is_bypass(self) -> bool
         ensures { result ≡ is_bypass self }
     {
-        match self {
-            PointKind::Bypass => true,
-            _ => false,
-        }
+        matches!(self, PointKind::Bypass)
     }
 
     // What the kind carries, in its range.
@@ -129,21 +127,25 @@ impl PointKind {
     }
 }
 
-impl Point {
+impl Default for Point {
+    ghost is_default = { λ x. x ≡ default_point };
+
     // A bypass at 1 kHz, Q 0.707.
-    pub fn default() -> Point
+    fn default() -> Point
         ensures { result ≡ default_point }
     {
         Point::bypass(1000.0)
     }
+}
 
+impl Point {
     // A bypass at `frequency` hertz, Q 0.707.
     fn bypass(frequency: f32) -> Point
         ensures { result ≡ bypass_at frequency }
     {
         Point {
             kind: PointKind::Bypass,
-            frequency: frequency,
+            frequency,
             q: FRAC_1_SQRT_2,
         }
     }
@@ -152,9 +154,8 @@ impl Point {
     pub fn clamped(self) -> Point
         ensures { result ≡ clamped self }
     {
-        let kind = self.kind;
         Point {
-            kind: kind.clamped(),
+            kind: self.kind.clamped(),
             frequency: clamp_or(self.frequency, FREQUENCY_LOW, FREQUENCY_HIGH, 1000.0),
             q: clamp_or(self.q, Q_LOW, Q_HIGH, FRAC_1_SQRT_2),
         }
@@ -165,8 +166,7 @@ impl Point {
         ensures { result ≡ section_of self }
     {
         let p = self.clamped();
-        let kind = p.kind;
-        kind.mix(p.frequency, log2::log2(p.frequency / NEUTRAL_HZ), 1.0 / p.q)
+        p.kind.mix(p.frequency, log2::log2(p.frequency / NEUTRAL_HZ), 1.0 / p.q)
     }
 }
 
@@ -175,11 +175,11 @@ impl Section {
         ensures { result ≡ new_section octaves damping high band low }
     {
         Section {
-            octaves: octaves,
-            damping: damping,
-            high: high,
-            band: band,
-            low: low,
+            octaves,
+            damping,
+            high,
+            band,
+            low,
         }
     }
 
@@ -204,21 +204,23 @@ impl Section {
     }
 }
 
-impl State {
+impl Default for State {
+    ghost is_default = { λ x. x ≡ default_state };
+
     // Every point a bypass, spread an octave apart from 62.5 Hz to 8 kHz.
-    pub fn default() -> State
+    fn default() -> State
         ensures { result ≡ default_state }
     {
         State {
             points: [
-                Point::bypass(62.5 * 1.0),
-                Point::bypass(62.5 * 2.0),
-                Point::bypass(62.5 * 4.0),
-                Point::bypass(62.5 * 8.0),
-                Point::bypass(62.5 * 16.0),
-                Point::bypass(62.5 * 32.0),
-                Point::bypass(62.5 * 64.0),
-                Point::bypass(62.5 * 128.0),
+                Point::bypass(62.5),
+                Point::bypass(125.0),
+                Point::bypass(250.0),
+                Point::bypass(500.0),
+                Point::bypass(1000.0),
+                Point::bypass(2000.0),
+                Point::bypass(4000.0),
+                Point::bypass(8000.0),
             ],
         }
     }

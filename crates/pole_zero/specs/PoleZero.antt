@@ -1,6 +1,6 @@
 -- pole_zero.rs (document 01, The pole-zero table; document 02, C-17): the design, over the points of crate `points`, and its table, in the Rust's order,
 -- save that `bilinear` stands before `section`, which uses it. Definitions only. Assumes nothing.
-use Rattle.std.specs.Prelude.{List, [], ◌∷◌, ◌++◌, Bool, false, cond, not, ◌&&◌, ◌||◌, ℕ, ◌+◌, ◌*◌, ltb, get_or, replicate, Float}
+use Rattle.std.specs.Prelude.{Option, Some, None, List, [], ◌∷◌, ◌++◌, Bool, false, cond, not, ◌&&◌, ◌||◌, ℕ, ◌+◌, ◌*◌, ltb, get_or, replicate, Float}
 use Rattle.std.specs.Float.{nan}
 use Rattle.std.specs.Float.Ieee.{neg}
 use Rattle.lane.specs.Floats.{◌⊕◌, ◌⊖◌, ◌⊗◌, ◌‼◌, whole, zero, one}
@@ -13,8 +13,6 @@ use Rattle.points.specs.declared.State.{State}
 use Rattle.points.specs.Points.{clamp_or, new_section, section_of, section_between, values, default_state, is_bypass}
 use Rattle.pole_zero.specs.declared.PoleZeroDesign.{PoleZeroDesign}
 use Rattle.pole_zero.specs.declared.Table.{Table}
-use Rattle.pole_zero.specs.declared.Answer.{Answer}
-use Rattle.pole_zero.specs.declared.Answer.TheVariants.{Values, Refused}
 
 -- ---- PoleZeroDesign
 
@@ -85,13 +83,13 @@ blended_at d point x y z =
     cond d.three (section_between a (blended (bilinear_of d far point) x y) z) a
 
 -- an answer's refusal number (document 01, A bank is opened), 0 for none, and its values
-unfoldable pub refusal_of : Answer → ℕ
-refusal_of (Values s) = 0
-refusal_of Refused = 11
+unfoldable pub refusal_of : Option Section → ℕ
+refusal_of (Some s) = 0
+refusal_of None = 11
 
-unfoldable pub values_of : Answer → List Float
-values_of (Values s) = values s
-values_of Refused = []
+unfoldable pub values_of : Option Section → List Float
+values_of (Some s) = values s
+values_of None = []
 
 -- PoleZeroDesign::section: refusal 11 for a point number not 0 to 7
 unfoldable pub section_refusal : ℕ → ℕ

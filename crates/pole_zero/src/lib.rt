@@ -36,13 +36,6 @@ pub struct Table {
     pub gain: f32,
 }
 
-// What `PoleZeroDesign::section` answers: the section, or refusal 11.
-#[derive(Clone, Copy)]
-pub enum Answer {
-    Values(Section),
-    Refused,
-}
-
 // Of the four states' sections: each of the five values at (0, 0), then its X, Y and X * Y coefficients.
 fn terms(a: Section, b: Section, c: Section, d: Section) -> [f32; 20]
     ensures { result ≡ terms_of a b c d }
@@ -93,26 +86,28 @@ fn blended(t: [f32; 20], x: f32, y: f32) -> Section
     }
 }
 
-impl PoleZeroDesign {
+impl Default for PoleZeroDesign {
+    ghost is_default = { λ x. x ≡ default_design };
+
     // Every state the default's, two axes, the gain 0 dB.
-    pub fn default() -> PoleZeroDesign
+    fn default() -> PoleZeroDesign
         ensures { result ≡ default_design }
     {
-        let s = State::default();
         PoleZeroDesign {
-            states: [s; 8],
+            states: [State::default(); 8],
             three: false,
             gain_db: 0.0,
         }
     }
+}
 
+impl PoleZeroDesign {
     // Point `point` of state `state`.
     fn point(self, state: usize, point: usize) -> Point
         requires { (state < 8) × (point < 8) }
         ensures { result ≡ point_at self state point }
     {
-        let s = self.states[state];
-        s.points[point]
+        self.states[state].points[point]
     }
 
     // The overall gain as a factor.
@@ -127,27 +122,28 @@ impl PoleZeroDesign {
         requires { point < 8 }
         ensures { result ≡ blended_at self point x y z }
     {
-        let a = blended(self.bilinear(NEAR, point), x, y);
-        if !self.three {
-            return a;
+        let near = blended(self.bilinear(NEAR, point), x, y);
+        if self.three {
+            near.between(blended(self.bilinear(FAR, point), x, y), z)
+        } else {
+            near
         }
-        a.between(blended(self.bilinear(FAR, point), x, y), z)
     }
 
-    // Point `point`'s section at `x`, `y` and `z` (each 0 to 1), as the filter blends it.
-    pub fn section(self, point: usize, x: f32, y: f32, z: f32) -> Answer
+    // Point `point`'s section at `x`, `y` and `z` (each 0 to 1), as the filter blends it. None is refusal 11.
+    pub fn section(self, point: usize, x: f32, y: f32, z: f32) -> Option<Section>
         ensures refusal { refusal_of result ≡ section_refusal point }
         ensures values { values_of result ≡ section_values self point x y z }
     {
         if point < 8 {
-            Answer::Values(self.blended_at(
+            Some(self.blended_at(
                 point,
                 lane::clamp(x, 0.0, 1.0),
                 lane::clamp(y, 0.0, 1.0),
                 lane::clamp(z, 0.0, 1.0),
             ))
         } else {
-            Answer::Refused
+            None
         }
     }
 
@@ -169,11 +165,10 @@ impl PoleZeroDesign {
         requires { (face ≤ 4) × (point < 8) }
         ensures { result ≡ face_bypassed self face point }
     {
-        let k0 = self.point(face, point).kind;
-        let k1 = self.point(face + 1, point).kind;
-        let k2 = self.point(face + 2, point).kind;
-        let k3 = self.point(face + 3, point).kind;
-        k0.is_bypass() & k1.is_bypass() & k2.is_bypass() & k3.is_bypass()
+        self.point(face, point).kind.is_bypass()
+            && self.point(face + 1, point).kind.is_bypass()
+            && self.point(face + 2, point).kind.is_bypass()
+            && self.point(face + 3, point).kind.is_bypass()
     }
 
     // Whether point `point` is a bypass in every state, so that it does nothing wherever X, Y and Z are.
@@ -181,29 +176,18 @@ impl PoleZeroDesign {
         requires { point < 8 }
         ensures { result ≡ is_bypassed self point }
     {
-        if !self.face_bypassed(NEAR, point) {
-            return false;
-        }
-        if !self.three {
-            return true;
-        }
-        self.face_bypassed(FAR, point)
+        self.face_bypassed(NEAR, point) && (!self.three || self.face_bypassed(FAR, point))
     }
 }
 
 // A point's terms stored as section n.
-fn store(sections: [f32; 320], n: usize, t: [f32; 20]) -> [f32; 320]
+fn store(mut sections: [f32; 320], n: usize, t: [f32; 20]) -> [f32; 320]
     requires { n < 16 }
     ensures { result ≡ patch 20 n t sections }
 {
-    let mut s = sections;
     let at = n * 20;
-    let mut i = 0;
-    while i < 20 {
-        s[at + i] = t[i];
-        i += 1;
-    }
-    s
+    sections[at..at + 20].copy_from_slice(&t);
+    sections
 }
 
 // Point p of a design stored as section n of each face that the table has.
@@ -212,10 +196,11 @@ fn with_section(sections: [f32; 320], design: PoleZeroDesign, p: usize, n: usize
     ensures { result ≡ with_section design p n sections }
 {
     let s = store(sections, n, design.bilinear(NEAR, p));
-    if !design.three {
-        return s;
+    if design.three {
+        store(s, 8 + n, design.bilinear(FAR, p))
+    } else {
+        s
     }
-    store(s, 8 + n, design.bilinear(FAR, p))
 }
 
 impl Table {
@@ -239,13 +224,10 @@ impl Table {
         if design.is_bypassed(p) {
             return self;
         }
-        let s = self.sections;
-        let n = self.active as usize;
         Table {
             active: self.active + 1,
-            three: self.three,
-            sections: with_section(s, design, p, n),
-            gain: self.gain,
+            sections: with_section(self.sections, design, p, self.active as usize),
+            ..self
         }
     }
 
@@ -254,10 +236,8 @@ impl Table {
         ensures { result ≡ table_of design }
     {
         let mut t = Table::empty(design);
-        let mut p = 0;
-        while p < 8 {
+        for p in 0..8 {
             t = t.with_point(design, p);
-            p += 1;
         }
         t
     }

@@ -1,14 +1,14 @@
 -- For the proofs: nothing here must be believed.
 -- The numbers of a table's sections at one pitch, X, Y and Z, as a list: five a section, for the sections that run, then the pitch, X, Y and Z.
--- Definitions, and the laws that the sections of that list are the table's and that eight marks are those of the sections that run.
--- Assumes nothing.
-use Rattle.std.specs.Prelude.{◌≡◌, Bool, true, false, List, [], ◌∷◌, ◌++◌, eqb, ltb}
+-- Definitions, and the laws that the list grows section by section and that its sections are the table's. Assumes nothing.
+use Rattle.std.specs.Prelude.{◌≡◌, List, [], ◌∷◌, ◌++◌, eqb, ltb}
 use Rattle.std.proofs.Math.Path.{refl, ap}
-use Rattle.std.proofs.Common.{sym, ◌∙◌, subst, add-zero, lt-ltb, le-ltb, ltb-true, ltb-false}
+use Rattle.std.proofs.Common.{zero-add, sym, ◌∙◌, subst, lt-ltb}
 use Prim.Native.Nat.{ℕ, zero, suc, ◌+◌, ◌*◌, ◌/◌, ◌%◌, ◌≤◌, ◌<◌, min}
 use native.Mathlib.Omega.{arith}
 use Rattle.std.proofs.Math.Bool.{cond}
-use Rattle.std.proofs.Math.ListN.{get_or-append}
+use Rattle.std.proofs.Math.ListN.{get_or-append, replicate}
+use Rattle.std.proofs.lemmas.List.Edits.{sets}
 use Rattle.std.specs.Float.Ieee.{Float, nan}
 use Rattle.parts.specs.Parts.{upto, tab}
 use Rattle.parts.specs.Laws.{upto_same, length_tab, tab_at}
@@ -24,59 +24,20 @@ use Rattle.points.specs.Points.{new_section, between, section_between}
 use Rattle.poles.specs.declared.Pad.{Pad}
 use Rattle.poles.specs.declared.PoleSection.{PoleSection}
 use Rattle.poles.specs.declared.JudgedSection.{JudgedSection}
-use Rattle.poles.specs.declared.Blended.{Blended}
-use Rattle.poles.specs.Poles.{term, blend_of, far_face, number_at, pole_section, section_over, pole_over, pole_stage, pole_series, pole_step}
+use Rattle.poles.specs.Poles.{term, blend_of, far_face, number_at, pole_section, section_over, pole_stage, pole_series, pole_step}
 
--- section j, if it is among the n that run; of any other, zeros
+-- of a section that does not run, zeros
 abbrev none : PoleSection
 none = record { g = floats.zero; k = floats.zero; high = floats.zero; band = floats.zero; low = floats.zero }
 
+-- section j, if it is among the n that run
 unfoldable pub running : ℕ → (ℕ → PoleSection) → ℕ → PoleSection
 running n c j = cond (ltb j n) (c j) none
 
--- its mark, of any other 0
-unfoldable pub running_over : ℕ → (ℕ → ℕ) → ℕ → ℕ
-running_over n m j = cond (ltb j n) (m j) 0
-
--- section j with its mark, and if it is among the n that run
+-- section j with its mark
 unfoldable pub judged_section : (at : ℕ → Float) (transpose : Float) → Ratio → ℕ → JudgedSection
 judged_section at transpose reference j =
     record { section = pole_section at transpose reference j; over = section_over at transpose reference j }
-
-unfoldable pub running_section : ℕ → (at : ℕ → Float) (transpose : Float) → Ratio → ℕ → JudgedSection
-running_section n at transpose reference j =
-    record { section = running n (pole_section at transpose reference) j; over = running_over n (section_over at transpose reference) j }
-
-unfoldable pub no_section : JudgedSection
-no_section = record { section = none; over = 0 }
-
-pub mark_most : (n : ℕ) (at : ℕ → Float) (transpose : Float) (reference : Ratio) (j : ℕ) {s : JudgedSection}
-    → s ≡ running_section n at transpose reference j → s.over ≤ 1
-unfolding running_section running_over section_over
-mark_most n at transpose reference j e =
-    subst (λ (s : JudgedSection). s.over ≤ 1) (sym e) (go (ltb j n) _ (once_most (over_at (transpose ⊕ at (term j 0)) reference)))
-  where
-    go : (b : Bool) (k : ℕ) → k ≤ 1 → cond b k 0 ≤ 1
-    go true k h = h
-    go false k h = omega arith
-
--- by the test whether it runs
-module _ (n : ℕ) (at : ℕ → Float) (transpose : Float) (reference : Ratio) (j : ℕ) where
-  pub runs_now : j < n → judged_section at transpose reference j ≡ running_section n at transpose reference j
-  unfolding judged_section running_section running running_over
-  runs_now h =
-      λ t. record {
-        section = cond (sym (lt-ltb j n h) t) (pole_section at transpose reference j) none;
-        over = cond (sym (lt-ltb j n h) t) (section_over at transpose reference j) 0;
-      }
-
-  pub runs_not : n ≤ j → no_section ≡ running_section n at transpose reference j
-  unfolding no_section running_section running running_over
-  runs_not h =
-      λ t. record {
-        section = cond (sym (le-ltb j n h) t) (pole_section at transpose reference j) none;
-        over = cond (sym (le-ltb j n h) t) (section_over at transpose reference j) 0;
-      }
 
 -- the two ways to a section's number: in the near face, and between the two
 unfoldable pub near_at : (sections : List Float) → Pad → ℕ → Float
@@ -91,6 +52,17 @@ face_section sections face j x y =
     new_section (blend_of sections (face + term j 0) x y) (blend_of sections (face + term j 1) x y) (blend_of sections (face + term j 2) x y)
     (blend_of sections (face + term j 3) x y) (blend_of sections (face + term j 4) x y)
 
+-- the five numbers of section j, of a way to a number
+unfoldable pub numbers_of : (at : ℕ → Float) → ℕ → Section
+numbers_of at j = new_section (at (term j 0)) (at (term j 1)) (at (term j 2)) (at (term j 3)) (at (term j 4))
+
+-- a closure takes the eight sections' numbers, and gives them by this way
+abbrev pub TakesEight : (pre : ℕ → Type 0) → Type 0
+TakesEight pre = (j : ℕ) → j < 8 → pre j
+
+abbrev pub Gives : (post : ℕ → Section → Type 0) (at : ℕ → Float) → Type 0
+Gives post at = (j : ℕ) (s : Section) → j < 8 → post j s → s ≡ numbers_of at j
+
 -- a section with its mark from its five numbers
 unfoldable pub judged_of : Section → (transpose : Float) → Ratio → JudgedSection
 judged_of n transpose reference =
@@ -99,27 +71,34 @@ judged_of n transpose reference =
       over = once (over_at (transpose ⊕ n.octaves) reference);
     }
 
-first : (i : ℕ) → 0 + i ≡ i
-first i = omega arith
+-- it is the table's, of the numbers that a closure gives
+pub judged_given : (at : ℕ → Float) (transpose : Float) (reference : Ratio) (j : ℕ) {n : Section} {s : JudgedSection} → n ≡ numbers_of at j
+    → s ≡ judged_of n transpose reference → s ≡ judged_section at transpose reference j
+unfolding judged_of numbers_of judged_section pole_section section_over
+judged_given at transpose reference j h e = e ∙ ap (λ (n : Section). judged_of n transpose reference) h
 
-module _ (sections : List Float) (d : Pad) (transpose : Float) (reference : Ratio) (j : ℕ) where
+pub mark_most : (at : ℕ → Float) (transpose : Float) (reference : Ratio) (j : ℕ) {s : JudgedSection}
+    → s ≡ judged_section at transpose reference j → s.over ≤ 1
+unfolding judged_section section_over
+mark_most at transpose reference j e = subst (λ (s : JudgedSection). s.over ≤ 1) (sym e) (once_most (over_at (transpose ⊕ at (term j 0)) reference))
+
+module _ (sections : List Float) (d : Pad) (j : ℕ) where
   abbrev near : Section
   near = face_section sections 0 j d.x d.y
 
-  pub judged_near : judged_of near transpose reference ≡ judged_section (near_at sections d) transpose reference j
-  unfolding judged_of face_section judged_section pole_section section_over near_at
-  judged_near =
-      let at : (i : ℕ) → blend_of sections (0 + i) d.x d.y ≡ blend_of sections i d.x d.y = λ i t. blend_of sections (first i t) d.x d.y in
-      λ t. judged_of (new_section (at (term j 0) t) (at (term j 1) t) (at (term j 2) t) (at (term j 3) t) (at (term j 4) t)) transpose reference
+  pub numbers_near : near ≡ numbers_of (near_at sections d) j
+  unfolding face_section numbers_of near_at
+  numbers_near =
+      let at : (i : ℕ) → blend_of sections (0 + i) d.x d.y ≡ blend_of sections i d.x d.y = λ i t. blend_of sections (zero-add i t) d.x d.y in
+      λ t. new_section (at (term j 0) t) (at (term j 1) t) (at (term j 2) t) (at (term j 3) t) (at (term j 4) t)
 
-  pub judged_between : judged_of (section_between near (face_section sections far_face j d.x d.y) (unit_or0 d.z)) transpose reference
-      ≡ judged_section (between_at sections d) transpose reference j
-  unfolding judged_of face_section judged_section pole_section section_over between_at section_between
-  judged_between =
+  pub numbers_between : section_between near (face_section sections far_face j d.x d.y) (unit_or0 d.z) ≡ numbers_of (between_at sections d) j
+  unfolding face_section numbers_of between_at section_between
+  numbers_between =
       let far : ℕ → Float = λ i. blend_of sections (far_face + i) d.x d.y in
       let at : (i : ℕ) → between (blend_of sections (0 + i) d.x d.y) (far i) (unit_or0 d.z) ≡ between_at sections d i
-      = λ i t. between (blend_of sections (first i t) d.x d.y) (far i) (unit_or0 d.z) in
-      λ t. judged_of (new_section (at (term j 0) t) (at (term j 1) t) (at (term j 2) t) (at (term j 3) t) (at (term j 4) t)) transpose reference
+      = λ i t. between (blend_of sections (zero-add i t) d.x d.y) (far i) (unit_or0 d.z) in
+      λ t. new_section (at (term j 0) t) (at (term j 1) t) (at (term j 2) t) (at (term j 3) t) (at (term j 4) t)
 
 -- a section's five numbers, counted from 0
 abbrev pub number : PoleSection → ℕ → Float
@@ -141,82 +120,42 @@ section_at t j =
       low = t ‼ (5 * j + 4);
     }
 
--- ---- the list as the code writes it
+-- ---- the list section by section
 
-abbrev pub listed : (a b c d e f g h : PoleSection) (pitch x y z : Float) → List Float
-listed a b c d e f g h pitch x y z =
-    a.g ∷ a.k ∷ a.high ∷ a.band ∷ a.low ∷
-    b.g ∷ b.k ∷ b.high ∷ b.band ∷ b.low ∷
-    c.g ∷ c.k ∷ c.high ∷ c.band ∷ c.low ∷
-    d.g ∷ d.k ∷ d.high ∷ d.band ∷ d.low ∷
-    e.g ∷ e.k ∷ e.high ∷ e.band ∷ e.low ∷
-    f.g ∷ f.k ∷ f.high ∷ f.band ∷ f.low ∷
-    g.g ∷ g.k ∷ g.high ∷ g.band ∷ g.low ∷
-    h.g ∷ h.k ∷ h.high ∷ h.band ∷ h.low ∷
-    pitch ∷ x ∷ y ∷ z ∷ []
+-- the list with the first n sections' numbers, and after all sections' these
+unfoldable pub table_of : (c : ℕ → PoleSection) (n : ℕ) (last : List Float) → List Float
+table_of c n last = tab (λ i. number (running n c (i / 5)) (i % 5)) 40 ++ last
 
-pub listed_is : (sections : List Float) (active : ℕ) (reference : Ratio) (pitch : Pitch) (d : Pad)
-    → (let s : ℕ → PoleSection = running (min active 8) (pole_section (number_at sections d) (octaves_of pitch) reference) in
-    listed (s 0) (s 1) (s 2) (s 3) (s 4) (s 5) (s 6) (s 7) pitch.0 d.x d.y d.z) ≡ pole_numbers sections active reference pitch d
-unfolding pole_numbers
-listed_is sections active reference pitch d = refl
+abbrev pub five : PoleSection → List Float
+five c = c.g ∷ c.k ∷ c.high ∷ c.band ∷ c.low ∷ []
 
--- eight sections with their marks, as one list and one sum
-unfoldable pub gathered_of : (a b c d e f g h : JudgedSection) (pitch : Float) → Pad → Blended
-gathered_of a b c d e f g h pitch p =
-    record {
-      numbers = listed a.section b.section c.section d.section e.section f.section g.section h.section pitch p.x p.y p.z;
-      over = a.over + b.over + c.over + d.over + e.over + f.over + g.over + h.over;
-    }
+abbrev pub zeros : List Float
+zeros = floats.zero ∷ floats.zero ∷ floats.zero ∷ floats.zero ∷ []
 
--- of the n that run
-unfoldable pub eight_of : (n : ℕ) (at : ℕ → Float) (transpose : Float) → Ratio → (pitch : Float) → Pad → Blended
-eight_of n at transpose reference pitch p =
-    let s : ℕ → JudgedSection = running_section n at transpose reference in
-    gathered_of (s 0) (s 1) (s 2) (s 3) (s 4) (s 5) (s 6) (s 7) pitch p
+-- the marks of the first n sections
+abbrev pub marks_of : (mark : ℕ → ℕ) (n : ℕ) → ℕ
+marks_of mark n = upto (λ j t. t + mark j) n 0
 
--- ---- the marks of all eight are those of the sections that run
+module _ (c : ℕ → PoleSection) where
+  pub table_none : replicate 44 floats.zero ≡ table_of c 0 zeros
+  unfolding running table_of
+  table_none = refl
 
-module _ (n : ℕ) (m : ℕ → ℕ) where
-  abbrev sum : ℕ → ℕ
-  sum k = upto (λ j t. t + m j) k 0
+  pub table_more : (j : ℕ) → j < 8 → sets (table_of c j zeros) (5 * j) (five (c j)) ≡ table_of c (j + 1) zeros
+  unfolding running table_of
+  table_more zero h = refl
+  table_more (suc zero) h = refl
+  table_more (suc (suc zero)) h = refl
+  table_more (suc (suc (suc zero))) h = refl
+  table_more (suc (suc (suc (suc zero)))) h = refl
+  table_more (suc (suc (suc (suc (suc zero))))) h = refl
+  table_more (suc (suc (suc (suc (suc (suc zero)))))) h = refl
+  table_more (suc (suc (suc (suc (suc (suc (suc zero))))))) h = refl
+  table_more (suc (suc (suc (suc (suc (suc (suc (suc j)))))))) h = absurd (omega arith)
 
-  turn : (k : ℕ) (b : Bool) → ltb k n ≡ b → sum (min n k) + cond b (m k) 0 ≡ sum (min n (suc k))
-  turn k true e =
-      let h : k < n = ltb-true k n e in
-      let now : min n k ≡ k = omega arith in
-      let next : min n (suc k) ≡ suc k = omega arith in
-      ap (λ (i : ℕ). sum i + m k) now ∙ ap sum (sym next)
-  turn k false e =
-      let h : n ≤ k = ltb-false k n e in
-      let same : min n k ≡ min n (suc k) = omega arith in
-      add-zero (sum (min n k)) ∙ ap sum same
-
-  marks : (k : ℕ) → upto (λ j t. t + running_over n m j) k 0 ≡ sum (min n k)
-  unfolding running_over
-  marks zero =
-      let e : 0 ≡ min n 0 = omega arith in
-      ap sum e
-  marks (suc k) = ap (λ (t : ℕ). t + cond (ltb k n) (m k) 0) (marks k) ∙ turn k (ltb k n) refl
-
-  abbrev mark : ℕ → ℕ
-  mark = running_over n m
-
-  pub eight_marks : n ≤ 8 → mark 0 + mark 1 + mark 2 + mark 3 + mark 4 + mark 5 + mark 6 + mark 7 ≡ sum n
-  eight_marks h =
-      let e : min n 8 ≡ n = omega arith in
-      omega (arith, marks 8 ∙ ap sum e)
-
--- all of them at a pitch and a place on the pad
-pub eight_are : (sections : List Float) (active : ℕ) (reference : Ratio) (pitch : Pitch) (d : Pad)
-    → eight_of (min active 8) (number_at sections d) (octaves_of pitch) reference pitch.0 d
-    ≡ record { numbers = pole_numbers sections active reference pitch d; over = pole_over (number_at sections d) active (octaves_of pitch) reference }
-unfolding eight_of gathered_of running_section pole_over
-eight_are sections active reference pitch d =
-    λ t. record {
-      numbers = listed_is sections active reference pitch d t;
-      over = eight_marks (min active 8) (section_over (number_at sections d) (octaves_of pitch) reference) (omega arith) t;
-    }
+  pub table_last : (n : ℕ) (p x y z : Float) → sets (table_of c n zeros) 40 (p ∷ x ∷ y ∷ z ∷ []) ≡ table_of c n (p ∷ x ∷ y ∷ z ∷ [])
+  unfolding table_of
+  table_last n p x y z = refl
 
 -- ---- the sections that run are the table's
 

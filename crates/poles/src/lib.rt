@@ -2,11 +2,12 @@
 // blended at this sample's X, Y and Z, then the overall gain.
 #![tactic(auto)]
 
-ghost use Rattle.std.specs.Prelude.{◌≡◌, ◌+◌, ◌<◌, ◌≤◌, min};
+ghost use Rattle.std.specs.Prelude.{◌≡◌, ℕ, ◌+◌, ◌*◌, ◌<◌, ◌≤◌, min, List, [], ◌∷◌, Float};
+ghost use Rattle.std.proofs.lemmas.List.Edits.{sets};
 ghost use Rattle.filter.specs.Filter.{octaves_of};
-ghost use Rattle.poles.specs.Poles.{term, blend_of, pad_of, number_at, pole_over, pole_mix, pole_stage, pole_step};
-ghost use Rattle.poles.specs.Numbers.{near_at, between_at, face_section, judged_of, no_section, running_section, listed, gathered_of, eight_of};
-ghost use Rattle.poles.specs.Numbers.{pole_numbers, section_at};
+ghost use Rattle.poles.specs.Poles.{term, blend_of, pad_of, number_at, pole_section, section_over, pole_over, pole_mix, pole_stage, pole_step};
+ghost use Rattle.poles.specs.Numbers.{near_at, between_at, face_section, numbers_of, Gives, TakesEight, judged_of, five, table_of, marks_of, pole_numbers};
+ghost use Rattle.poles.specs.Numbers.{section_at};
 ghost use Rattle.extended.specs.Extended.{ticked};
 
 use extended::Settings;
@@ -121,102 +122,38 @@ fn pole_stage(c: PoleSection, state: &mut [f32; 20], u: f32, j: usize) -> f32
 fn sections_run(active: u32) -> usize
     ensures { result ≡ min active 8 }
 {
-    if active < 8 {
-        return active as usize;
-    }
-    8
+    active.min(8) as usize
 }
 
-// In the place of a section that does not run.
-fn no_section() -> JudgedSection
-    ensures { result ≡ no_section }
-{
-    JudgedSection {
-        section: PoleSection {
-            g: 0.0,
-            k: 0.0,
-            high: 0.0,
-            band: 0.0,
-            low: 0.0,
-        },
-        over: 0,
-    }
-}
-
-// Section j of a table of two axes, if it is among the n that run.
-fn near_section(
-    sections: &[f32; 320],
-    pad: Pad,
-    transpose: f32,
-    reference: Ratio,
-    n: usize,
-    j: usize,
-) -> JudgedSection
+// Section j's numbers in the near face.
+fn near_section(sections: &[f32; 320], pad: Pad, j: usize) -> Section
     requires { j < 8 }
-    ensures { result ≡ running_section n (near_at sections.now pad) transpose reference j }
+    ensures { result ≡ numbers_of (near_at sections.now pad) j }
 {
-    if j < n {
-        let near = face_section(sections, 0, j, pad.x, pad.y);
-        return judged(near, transpose, reference);
-    }
-    no_section()
+    face_section(sections, 0, j, pad.x, pad.y)
 }
 
-// Section j of a table of three axes.
-fn between_section(
-    sections: &[f32; 320],
-    pad: Pad,
-    transpose: f32,
-    reference: Ratio,
-    n: usize,
-    j: usize,
-) -> JudgedSection
+// Section j's numbers between the two faces.
+fn between_section(sections: &[f32; 320], pad: Pad, j: usize) -> Section
     requires { j < 8 }
-    ensures { result ≡ running_section n (between_at sections.now pad) transpose reference j }
+    ensures { result ≡ numbers_of (between_at sections.now pad) j }
 {
-    if j < n {
-        let near = face_section(sections, 0, j, pad.x, pad.y);
-        let far = face_section(sections, FAR_FACE, j, pad.x, pad.y);
-        return judged(
-            near.between(far, extended::unit(pad.z)),
-            transpose,
-            reference,
-        );
-    }
-    no_section()
+    let near = face_section(sections, 0, j, pad.x, pad.y);
+    let far = face_section(sections, FAR_FACE, j, pad.x, pad.y);
+    near.between(far, extended::unit(pad.z))
 }
 
-// Eight sections' numbers, five a section, then the pitch, X, Y and Z.
-fn listed(
-    a: PoleSection,
-    b: PoleSection,
-    c: PoleSection,
-    d: PoleSection,
-    e: PoleSection,
-    f: PoleSection,
-    g: PoleSection,
-    h: PoleSection,
-    pitch: f32,
-    x: f32,
-    y: f32,
-    z: f32,
-) -> [f32; 44]
-    ensures { result ≡ listed a b c d e f g h pitch x y z }
+// Puts section j among the numbers, five a section.
+fn put_section(numbers: &mut [f32; 44], j: usize, c: PoleSection)
+    requires { j < 8 }
+    ensures { numbers.new ≡ sets numbers.old (5 * j) (five c) }
 {
-    [
-        a.g, a.k, a.high, a.band, a.low, b.g, b.k, b.high, b.band, b.low, c.g, c.k, c.high, c.band,
-        c.low, d.g, d.k, d.high, d.band, d.low, e.g, e.k, e.high, e.band, e.low, f.g, f.k, f.high,
-        f.band, f.low, g.g, g.k, g.high, g.band, g.low, h.g, h.k, h.high, h.band, h.low, pitch, x,
-        y, z,
-    ]
-}
-
-// The sum of eight marks.
-fn marked(a: u32, b: u32, c: u32, d: u32, e: u32, f: u32, g: u32, h: u32) -> u32
-    requires { (a ≤ 1) × (b ≤ 1) × (c ≤ 1) × (d ≤ 1) × (e ≤ 1) × (f ≤ 1) × (g ≤ 1) × (h ≤ 1) }
-    ensures { result ≡ a + b + c + d + e + f + g + h }
-{
-    a + b + c + d + e + f + g + h
+    let at = 5 * j;
+    numbers[at] = c.g;
+    numbers[at + 1] = c.k;
+    numbers[at + 2] = c.high;
+    numbers[at + 3] = c.band;
+    numbers[at + 4] = c.low;
 }
 
 // The numbers of all sections, and how many of the running ones' ratios were greater than their cap.
@@ -226,80 +163,35 @@ pub struct Blended {
     pub over: u32,
 }
 
-fn gathered(
-    a: JudgedSection,
-    b: JudgedSection,
-    c: JudgedSection,
-    d: JudgedSection,
-    e: JudgedSection,
-    f: JudgedSection,
-    g: JudgedSection,
-    h: JudgedSection,
+// Of the n sections that run, each by its numbers in the table; last the pitch, X, Y and Z. Two axes are apart from three, so that their
+// sections are worked out without a look at the far face.
+fn running_numbers<F: Fn(usize) -> Section>(
+    section: F,
+    transpose: f32,
+    reference: Ratio,
+    n: usize,
     pitch: f32,
     pad: Pad,
 ) -> Blended
-    requires { (a.over ≤ 1) × (b.over ≤ 1) × (c.over ≤ 1) × (d.over ≤ 1)
-        × (e.over ≤ 1) × (f.over ≤ 1) × (g.over ≤ 1) × (h.over ≤ 1) }
-    ensures { result ≡ gathered_of a b c d e f g h pitch pad }
+    ghost at: { ℕ → Float }
+    requires few { n ≤ 8 }
+    requires takes { TakesEight (F.pre section) }
+    requires gives { Gives (F.post section) at }
+    ensures numbers { result.numbers ≡ table_of (pole_section at transpose reference) n (pitch ∷ pad.x ∷ pad.y ∷ pad.z ∷ []) }
+    ensures over { result.over ≡ marks_of (section_over at transpose reference) n }
 {
-    Blended {
-        numbers: listed(
-            a.section, b.section, c.section, d.section, e.section, f.section, g.section, h.section,
-            pitch, pad.x, pad.y, pad.z,
-        ),
-        over: marked(
-            a.over, b.over, c.over, d.over, e.over, f.over, g.over, h.over,
-        ),
+    let mut numbers = [0.0; 44];
+    let mut over = 0;
+    for j in 0..n {
+        let s = judged(section(j), transpose, reference);
+        put_section(&mut numbers, j, s.section);
+        over += s.over;
     }
-}
-
-// Two axes apart from three, so that their sections are worked out without a look at the far face.
-fn near_numbers(
-    sections: &[f32; 320],
-    pad: Pad,
-    transpose: f32,
-    reference: Ratio,
-    n: usize,
-    pitch: f32,
-) -> Blended
-    ensures { result ≡ eight_of n (near_at sections.now pad) transpose reference pitch pad }
-{
-    gathered(
-        near_section(sections, pad, transpose, reference, n, 0),
-        near_section(sections, pad, transpose, reference, n, 1),
-        near_section(sections, pad, transpose, reference, n, 2),
-        near_section(sections, pad, transpose, reference, n, 3),
-        near_section(sections, pad, transpose, reference, n, 4),
-        near_section(sections, pad, transpose, reference, n, 5),
-        near_section(sections, pad, transpose, reference, n, 6),
-        near_section(sections, pad, transpose, reference, n, 7),
-        pitch,
-        pad,
-    )
-}
-
-fn between_numbers(
-    sections: &[f32; 320],
-    pad: Pad,
-    transpose: f32,
-    reference: Ratio,
-    n: usize,
-    pitch: f32,
-) -> Blended
-    ensures { result ≡ eight_of n (between_at sections.now pad) transpose reference pitch pad }
-{
-    gathered(
-        between_section(sections, pad, transpose, reference, n, 0),
-        between_section(sections, pad, transpose, reference, n, 1),
-        between_section(sections, pad, transpose, reference, n, 2),
-        between_section(sections, pad, transpose, reference, n, 3),
-        between_section(sections, pad, transpose, reference, n, 4),
-        between_section(sections, pad, transpose, reference, n, 5),
-        between_section(sections, pad, transpose, reference, n, 6),
-        between_section(sections, pad, transpose, reference, n, 7),
-        pitch,
-        pad,
-    )
+    numbers[40] = pitch;
+    numbers[41] = pad.x;
+    numbers[42] = pad.y;
+    numbers[43] = pad.z;
+    Blended { numbers, over }
 }
 
 // What follows from the pitch and the settings alone.
@@ -317,9 +209,24 @@ pub fn pole_numbers(sections: &[f32; 320], series: Series, pitch: Pitch, p: Sett
     let transpose = filter::octaves_of(pitch);
     let n = sections_run(series.active);
     if series.three {
-        return between_numbers(sections, pad, transpose, reference, n, pitch.0);
+        running_numbers(
+            |j| between_section(sections, pad, j),
+            transpose,
+            reference,
+            n,
+            pitch.0,
+            pad,
+        )
+    } else {
+        running_numbers(
+            |j| near_section(sections, pad, j),
+            transpose,
+            reference,
+            n,
+            pitch.0,
+            pad,
+        )
     }
-    near_numbers(sections, pad, transpose, reference, n, pitch.0)
 }
 
 // Section j of those numbers.
@@ -342,12 +249,9 @@ pub fn pole_zero_step(numbers: &[f32; 44], series: Series, state: &mut [f32; 20]
     ensures { ticked result state.new ≡
         pole_step (section_at numbers.now) series.active series.gain state.old x }
 {
-    let n = sections_run(series.active);
     let mut u = x;
-    let mut j: usize = 0;
-    while j < n {
+    for j in 0..sections_run(series.active) {
         u = pole_stage(section_at(numbers, j), state, u, j);
-        j += 1;
     }
     u * series.gain
 }

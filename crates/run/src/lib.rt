@@ -13,6 +13,7 @@ ghost use Rattle.run.specs.Promises.{Glided, Keeps, kernel_on, over_on, tick_on,
 
 use extended::Chord;
 use filter::{Pitch, Ratio};
+use kernels::tuning::{KeptNumbers, KeptPlan};
 use lines::Ring;
 use poles::Series;
 
@@ -92,25 +93,14 @@ fn clean_drive() -> f32
 pub fn constants_of(rate: f32, reference: f32, clean: bool, chord: Chord) -> Constants
     ensures { result ≡ constants_of rate reference clean chord }
 {
-    let alpha = 1.0 - lane::exp(-1.0 / (SMOOTHING_SECONDS * rate));
-    let factor = clean_drive();
-    if clean {
-        return Constants {
-            alpha: alpha,
-            clip_in: factor,
-            clip_out: 1.0 / factor,
-            smooth_samples: SMOOTH_SECONDS * rate,
-            ref_over_rate: Ratio(reference / rate),
-            chord: chord,
-        };
-    }
+    let factor = if clean { clean_drive() } else { 1.0 };
     Constants {
-        alpha: alpha,
-        clip_in: 1.0,
-        clip_out: 1.0,
+        alpha: 1.0 - lane::exp(-1.0 / (SMOOTHING_SECONDS * rate)),
+        clip_in: factor,
+        clip_out: 1.0 / factor,
         smooth_samples: SMOOTH_SECONDS * rate,
         ref_over_rate: Ratio(reference / rate),
-        chord: chord,
+        chord,
     }
 }
 
@@ -119,9 +109,12 @@ pub fn sign(channels: usize, channel: usize) -> f32
     ensures { result ≡ sign_of channels channel }
 {
     if channels == 1 {
-        return 0.0;
+        0.0
+    } else if channel == 0 {
+        -1.0
+    } else {
+        1.0
     }
-    if channel == 0 { -1.0 } else { 1.0 }
 }
 
 // The eleven smoothed numbers one frame further on the way to their targets.
@@ -229,6 +222,14 @@ fn mix(params: &[f32; 11], input: f32, wet: f32) -> f32
     (wet * params[MIX] + input * (1.0 - params[MIX])) * params[LEVEL]
 }
 
+// A slot's record in hand: the smoothed numbers, the states and what runs in the peak's place.
+#[derive(Clone, Copy)]
+pub struct Record {
+    pub params: [f32; 11],
+    pub state: [f32; 20],
+    pub peak: f32,
+}
+
 // A frame's sample, and how often its kernel judged a ratio greater than the cap.
 #[derive(Clone, Copy)]
 pub struct Sample {
@@ -236,15 +237,12 @@ pub struct Sample {
     pub over: u32,
 }
 
-// The lag, the drive and the kernel. `tuning`, `blended`, `over`, `plan` and `teeth` hold the numbers kept from frame to frame.
+// The lag, the drive and the kernel. `kept` and `comb` hold the numbers kept from frame to frame.
 fn kernel_tick(
     m: Structure,
     sections: &[f32; 320],
-    tuning: &mut [f32; 10],
-    blended: &mut [f32; 44],
-    over: &mut u32,
-    plan: &mut [usize; 65],
-    teeth: &mut [f32; 9],
+    kept: &mut KeptNumbers,
+    comb: &mut KeptPlan,
     params: &[f32; 11],
     state: &mut [f32; 20],
     delay: &mut [f32],
@@ -253,93 +251,80 @@ fn kernel_tick(
     input: f32,
 ) -> Sample
     requires { (StandsIn delay.old at)
-        × (Keeps m at.len sections.now tuning.old blended.old over.old plan.old teeth.old) }
+        × (Keeps m at.len sections.now kept.old.tuning kept.old.blended kept.old.over comb.old.plan comb.old.teeth) }
     ensures { (KernelLeaves
         (kernel_on m sections.now at params.now state.old controls input delay.old)
         delay.old at result.out state.new delay.new)
         × (result.over ≡ over_on m sections.now params.now state.old controls)
-        × (Keeps m at.len sections.now tuning.new blended.new over.new
-        plan.new teeth.new) }
+        × (Keeps m at.len sections.now kept.new.tuning kept.new.blended kept.new.over
+        comb.new.plan comb.new.teeth) }
 {
     let k = m.k;
     let after = lag(m.code, state, k.smooth_samples, params[CHARACTER], controls);
     let driven = drive(k, params, input);
-    let reference = k.ref_over_rate;
-    let chord = k.chord;
-    let p = extended::settings_at(reference, chord, params, after.x, after.y);
+    let p = extended::settings_at(k.ref_over_rate, k.chord, params, after.x, after.y);
     let pitch = Pitch(after.pitch);
-    kernels::tuning::retune(
-        m.code,
-        tuning,
-        over,
-        pitch,
-        reference,
-        chord,
-        params[CHARACTER],
-    );
+    kept.retune(m.code, pitch, k.ref_over_rate, k.chord, params[CHARACTER]);
     let series = Series {
         active: m.active,
         three: m.three,
         gain: m.gain,
     };
-    kernels::tuning::blend_sections(m.code, blended, over, sections, series, pitch, p);
-    kernels::tuning::replan(m.code, plan, teeth, at.len, tuning[0], chord);
-    let wet = kernels::kernel(
-        m.code, sections, series, tuning, blended, plan, teeth, state, delay, at, pitch, p, driven,
+    kept.blend_sections(m.code, sections, series, pitch, p);
+    comb.replan(m.code, at.len, kept.tuning[0], k.chord);
+    let out = kernels::kernel(
+        m.code, sections, series, kept, comb, state, delay, at, pitch, p, driven,
     );
     Sample {
-        out: wet,
-        over: *over,
+        out,
+        over: kept.over,
     }
 }
 
-// One frame of one slot. `tuning`, `blended`, `over`, `plan` and `teeth` hold the numbers kept from frame to frame, `peak` what runs in the
-// peak's place; `glided` says that smoothing leaves the smoothed numbers as they are.
+// One frame of one slot. `kept` and `comb` hold the numbers kept from frame to frame; `glided` says that smoothing leaves the smoothed numbers as
+// they are.
 pub fn tick(
     m: Structure,
     sections: &[f32; 320],
-    tuning: &mut [f32; 10],
-    blended: &mut [f32; 44],
-    over: &mut u32,
-    plan: &mut [usize; 65],
-    teeth: &mut [f32; 9],
+    kept: &mut KeptNumbers,
+    comb: &mut KeptPlan,
     targets: &[f32; 11],
-    params: &mut [f32; 11],
-    state: &mut [f32; 20],
-    peak: &mut f32,
+    rec: &mut Record,
     delay: &mut [f32],
     at: Ring,
     f: FrameInput,
     glided: bool,
 ) -> Sample
-    requires { (Widths params.old state.old) × (StandsIn delay.old at)
-        × (Keeps m at.len sections.now tuning.old blended.old over.old plan.old teeth.old)
-        × (glided ≡ true → Glided m.k.alpha targets.now params.old) }
-    ensures { ((b : Float) → Runs b peak.old → Runs b peak.new × (TickLeaves
-        (tick_on m sections.now at f targets.now (held_record params.old state.old b peak.old)
+    requires { (Widths rec.old.params rec.old.state) × (StandsIn delay.old at)
+        × (Keeps m at.len sections.now kept.old.tuning kept.old.blended kept.old.over comb.old.plan comb.old.teeth)
+        × (glided ≡ true → Glided m.k.alpha targets.now rec.old.params) }
+    ensures { ((b : Float) → Runs b rec.old.peak → Runs b rec.new.peak × (TickLeaves
+        (tick_on m sections.now at f targets.now (held_record rec.old.params rec.old.state b rec.old.peak)
         delay.old)
-        delay.old at result (held_record params.new state.new b peak.new) delay.new))
-        × (result.over ≤ 8) × (Widths params.new state.new)
-        × (Keeps m at.len sections.now tuning.new blended.new over.new
-        plan.new teeth.new)
-        × (params.new ≡ smooth_of m.k.alpha targets.now params.old) }
+        delay.old at result (held_record rec.new.params rec.new.state b rec.new.peak) delay.new))
+        × (result.over ≤ 8) × (Widths rec.new.params rec.new.state)
+        × (Keeps m at.len sections.now kept.new.tuning kept.new.blended kept.new.over
+        comb.new.plan comb.new.teeth)
+        × (rec.new.params ≡ smooth_of m.k.alpha targets.now rec.old.params) }
 {
-    let k = m.k;
-    let pitch = f.pitch;
-    smooth_on(params, targets, k.alpha, glided);
+    let Record {
+        params,
+        state,
+        peak,
+    } = rec;
+    smooth_on(params, targets, m.k.alpha, glided);
     let controls = Controls {
-        pitch: params[OFFSET] * f.sign + pitch.0,
+        pitch: params[OFFSET] * f.sign + f.pitch.0,
         x: steer(params[MORPH_X], f.x),
         y: steer(params[MORPH_Y], f.y),
     };
     let wet = kernel_tick(
-        m, sections, tuning, blended, over, plan, teeth, params, state, delay, at, controls,
-        f.input,
+        m, sections, kept, comb, params, state, delay, at, controls, f.input,
     );
     let out = mix(params, f.input, wet.out);
     *peak = peak::raised(*peak, out);
     Sample {
-        out: out,
+        out,
         over: wet.over,
     }
 }

@@ -5,92 +5,135 @@
 // audio 16,384, counts 1,024; the input 1,048,576 bytes.
 #![tactic(auto)]
 
-ghost use Rattle.std.specs.Prelude.{◌≡◌, ◌<◌, ◌≤◌, length, take, IfOk, IfSome};
-ghost use Rattle.std.specs.Io.{ReadsAtMost};
+ghost use Rattle.std.specs.Prelude.{◌≡◌, ◌≤◌, take, IfOk, IfSome};
 ghost use Rattle.std.specs.Io.KnownBytes.{Consumes};
 
-use bank::Answer;
-use checks::Setup;
+use bank::Rendered;
+use checks::{Refusal, Setup};
 use extended::Chord;
 use filter::VoiceParams;
 use pole_zero::Table;
-use std::io;
 use std::io::{Read, Write};
-use text::Span;
+use std::{array, io};
 
 // How many numbers of targets, records and delay are lent.
-#[derive(Clone, Copy)]
+#[derive(Clone, Copy, Default)]
 struct Lengths {
     targets: usize,
     records: usize,
     delay: usize,
 }
 
-// What the next call is handed beside the lists' numbers. `own` are the lists' lengths and `lent` those that the next call is
-// given, which a `lend` line changes. The fields from `counts` on are a block's or an audition's: where a `counts` line `said` so,
-// the next one's list of counts has `counts` numbers; where a `scratch` line `told` so, the next audition's scratch lists have
-// those lengths. Those from `heard` on are as its lines are read: `heard` tells an audition, `awaited` counts the lines still to
-// come, and `pitch` to `audio` are how many numbers its lists have.
+// The numbers of a bank, or an audition's scratch.
+#[derive(Drop)]
+struct Lists {
+    targets: [f32; 177],
+    records: [f32; 1025],
+    delay: [f32; 65537],
+}
+
+// The numbers of a block.
+#[derive(Drop)]
+struct Signals {
+    pitch: [f32; 8192],
+    x: [f32; 8192],
+    y: [f32; 8192],
+    audio: [f32; 16384],
+}
+
+// Which call the lines of a block are for: a block, answered by its samples or by their sums, or an audition.
+#[derive(Clone, Copy, PartialEq, Eq)]
+enum Call {
+    Block,
+    BlockSums,
+    Audition,
+}
+
+// A block or an audition, and how many numbers its lists have, as far as they are read.
 #[derive(Clone, Copy)]
-struct State {
-    setup: Setup,
-    cursor: usize,
-    own: Lengths,
-    lent: Lengths,
-    counts: usize,
-    said: bool,
-    scratch: Lengths,
-    told: bool,
-    heard: bool,
+struct Block {
+    call: Call,
     frames: usize,
     steered: bool,
-    digest: bool,
-    awaited: usize,
     pitch: usize,
     x: usize,
     y: usize,
     audio: usize,
 }
 
-// A state that a line was read into; not ok where it cannot be read.
+// The line that comes next: a call's, or of a block the list named.
 #[derive(Clone, Copy)]
-struct StateRead {
+enum Awaited {
+    Call,
+    Pitch(Block),
+    X(Block),
+    Y(Block),
+    Audio(Block),
+}
+
+// What the next call is handed beside the lists' numbers. `own` are the lists' lengths and `lent` those that the next call is
+// given, which a `lend` line changes. `counts` is the length of the next block's or audition's list of counts, and `scratch` the
+// lengths of the next audition's scratch, where a line said so.
+#[derive(Clone, Copy)]
+struct State {
+    setup: Setup,
+    cursor: usize,
+    own: Lengths,
+    lent: Lengths,
+    counts: Option<usize>,
+    scratch: Option<Lengths>,
+    awaited: Awaited,
+}
+
+// What the lines so far left: the state, and the numbers of the lists and of a block.
+#[derive(Drop)]
+struct Replay {
     state: State,
-    ok: bool,
+    lists: Lists,
+    signals: Signals,
 }
 
-#[derive(Clone, Copy)]
-struct TableRead {
-    table: Table,
-    ok: bool,
+// A line as it was read. Those of a block's lists say how many numbers they have.
+#[derive(Drop)]
+enum Command {
+    Scenario,
+    Setup(Setup),
+    Open(Setup, Lengths),
+    Lend(Lengths),
+    Cursor(usize),
+    Poke,
+    Set(usize, VoiceParams),
+    Start(usize),
+    Counts(usize),
+    Scratch(Lengths),
+    Block(Block),
+    Pitch(usize),
+    X(usize),
+    Y(usize),
+    Audio(usize),
+    Dump,
 }
 
-// How many numbers a list has; not ok where it cannot be read or does not fit.
-#[derive(Clone, Copy)]
-struct ListRead {
-    count: usize,
-    ok: bool,
-}
-
-// A number and how often it stands in a row; 0 times where the word is no run.
+// A number and how often it stands in a row.
 #[derive(Clone, Copy)]
 struct Run {
     value: f32,
     count: usize,
 }
 
-// The state after a line, and a position: where the output ends in the buffer, or where the next line starts.
-#[derive(Clone, Copy)]
-struct Step {
-    state: State,
-    at: usize,
+// The first n elements, or all where there are fewer.
+fn first<T>(xs: &[T], n: usize) -> &[T] {
+    &xs[..n.min(xs.len())]
 }
 
-// The lesser of n and `most`.
-fn at_most(n: usize, most: usize) -> usize
-    ensures { result ≤ most }
-{
-    if n < most { n } else { most }
+fn first_mut<T>(xs: &mut [T], n: usize) -> &mut [T] {
+    let n = n.min(xs.len());
+    &mut xs[..n]
+}
+
+// Word k, where there is one.
+fn word(s: &[u8], k: usize) -> Option<&[u8]> {
+    s.split(|b| *b == b' ').nth(k)
 }
 
 // Whether no word follows the first k.
@@ -98,135 +141,58 @@ fn ends_at(s: &[u8], k: usize) -> bool {
     words::start(s, 0, k) == s.len()
 }
 
-// Word k from `at` on as a number of the bank's; 0 where it is none.
-fn count_at(s: &[u8], at: usize, k: usize) -> usize {
-    words::decimal_at(s, at, k, 0) as usize
+// The N f32 from word k on.
+fn floats<const N: usize>(s: &[u8], k: usize) -> Option<[f32; N]> {
+    let at = words::start(s, 0, k);
+    if !words::are_floats(s, at, 0, N) {
+        return None;
+    }
+    Some(array::from_fn(|i| words::float_at(s, at, i)))
 }
 
-// Word k as a number of 32 bits; the largest where it has more.
-fn u32_at(s: &[u8], k: usize) -> u32 {
-    let n = words::decimal_at(s, 0, k, 0);
-    if n > 4294967295 {
-        return 4294967295;
+// The N decimals from word k on.
+fn decimals<const N: usize>(s: &[u8], k: usize) -> Option<[usize; N]> {
+    let at = words::start(s, 0, k);
+    if !words::are_decimals(s, at, 0, N) {
+        return None;
     }
-    n as u32
+    Some(array::from_fn(|i| words::decimal_at(s, at, i, 0) as usize))
 }
 
-// How often a number stands: once where its word ends at `at`, else as the decimal after a `*` says.
-fn times(s: &[u8], at: usize, end: usize) -> usize {
-    if at == end {
-        return 1;
-    }
-    if at < s.len() {
-        if s[at] == b'*' {
-            let d = text::decimal(
-                s,
-                Span {
-                    start: at + 1,
-                    end: end,
-                },
-            );
-            return match d {
-                text::Number::Value(v) => v as usize,
-                text::Number::Refused => 0,
-            };
-        }
-    }
-    0
+// The number in 32 bits; the largest where it has more.
+fn u32_of(n: usize) -> u32 {
+    u32::try_from(n).unwrap_or(u32::MAX)
 }
 
-// The run from `at` up to `end`: eight hexadecimal digits, and a count where it is not 1.
-fn run_at(s: &[u8], at: usize, end: usize) -> Run {
-    if end < 8 {
-        return Run {
-            value: 0.0,
-            count: 0,
-        };
+// The run that a word is: eight hexadecimal digits, then `*` and a count where it is not 1.
+fn run_of(word: &[u8]) -> Option<Run> {
+    let (digits, times) = word.split_at_checked(8)?;
+    let [value] = floats::<1>(digits, 0)?;
+    let count = match times {
+        [] => 1,
+        [b'*', count @ ..] => decimals::<1>(count, 0)?[0],
+        _ => return None,
+    };
+    if count == 0 {
+        return None;
     }
-    if at > end - 8 {
-        return Run {
-            value: 0.0,
-            count: 0,
-        };
-    }
-    let p = text::hexadecimal(
-        s,
-        Span {
-            start: at,
-            end: at + 8,
-        },
-    );
-    match p {
-        text::Pattern::Bits(b) => Run {
-            value: text::float_of(b),
-            count: times(s, at + 8, end),
-        },
-        text::Pattern::Malformed => Run {
-            value: 0.0,
-            count: 0,
-        },
-    }
+    Some(Run { value, count })
 }
 
-// Writes `value` from `from` up to `to`.
-fn fill(xs: &mut [f32], from: usize, to: usize, value: f32)
-    requires { to ≤ length xs.old }
-{
-    let mut i = from;
-    while i < to {
-        xs[i] = value;
-        i += 1;
+// Reads the runs from word k to the line's end into the list, and answers how many numbers they are; none where one cannot be
+// read or the list has no room for it.
+fn read_list(s: &[u8], k: usize, xs: &mut [f32]) -> Option<usize> {
+    let mut n = 0usize;
+    for word in s
+        .get(words::start(s, 0, k)..)?
+        .split_inclusive(|b| *b == b' ')
+    {
+        let run = run_of(word.strip_suffix(b" ").unwrap_or(word))?;
+        let end = n.checked_add(run.count)?;
+        xs.get_mut(n..end)?.fill(run.value);
+        n = end;
     }
-}
-
-// Reads the runs from `from` to the line's end into the list.
-fn read_list(s: &[u8], from: usize, xs: &mut [f32]) -> ListRead {
-    let mut at = from;
-    let mut n = 0;
-    while at < s.len() {
-        let end = text::word(s, at).end;
-        let run = run_at(s, at, end);
-        let count = run.count;
-        if count == 0 {
-            return ListRead {
-                count: n,
-                ok: false,
-            };
-        }
-        if count > xs.len() - n {
-            return ListRead {
-                count: n,
-                ok: false,
-            };
-        }
-        fill(xs, n, n + count, run.value);
-        n += count;
-        if end < at {
-            return ListRead {
-                count: n,
-                ok: false,
-            };
-        }
-        if end >= s.len() {
-            return ListRead { count: n, ok: true };
-        }
-        at = end + 1;
-    }
-    ListRead { count: n, ok: true }
-}
-
-// Reads the list from word 3 on into the numbers from `at` on; the list ends at `own`.
-fn poke(s: &[u8], own: usize, xs: &mut [f32]) -> ListRead {
-    let at = count_at(s, 0, 2);
-    if own <= xs.len() {
-        if at <= own {
-            return read_list(s, words::start(s, 0, 3), &mut xs[at..own]);
-        }
-    }
-    ListRead {
-        count: 0,
-        ok: false,
-    }
+    Some(n)
 }
 
 // A line of a list: its letter, and the numbers in runs.
@@ -240,12 +206,9 @@ fn put_list(out: &mut [u8], at: usize, letter: u8, xs: &[f32]) -> usize {
 fn put_digest(out: &mut [u8], at: usize, xs: &[f32]) -> usize {
     let mut s1 = 0u32;
     let mut s2 = 0u32;
-    let mut i = 0;
-    while i < xs.len() {
-        let bits = text::bits_of(xs[i]);
-        s1 = s1.wrapping_add(bits).wrapping_add(1);
+    for x in xs {
+        s1 = s1.wrapping_add(text::bits_of(*x)).wrapping_add(1);
         s2 = s2.wrapping_add(s1);
-        i += 1;
     }
     let p = text::put_bytes(out, at, b"h ");
     let p = text::put_hex(out, p, s1);
@@ -254,845 +217,500 @@ fn put_digest(out: &mut [u8], at: usize, xs: &[f32]) -> usize {
     text::put_byte(out, p, b'\n')
 }
 
-fn put_count(out: &mut [u8], at: usize, n: u32) -> usize {
-    let p = text::put_byte(out, at, b' ');
-    text::put_decimal(out, p, n as u64)
-}
-
 // A line of counts: `c`, and each in decimal.
 fn put_counts(out: &mut [u8], at: usize, counts: &[u32]) -> usize {
     let mut p = text::put_byte(out, at, b'c');
-    let mut i = 0;
-    while i < counts.len() {
-        p = put_count(out, p, counts[i]);
-        i += 1;
+    for n in counts {
+        p = text::put_byte(out, p, b' ');
+        p = text::put_decimal(out, p, u64::from(*n));
     }
     text::put_byte(out, p, b'\n')
 }
 
-// `= ok` and the cursor
-fn put_ok(out: &mut [u8], at: usize, cursor: usize) -> usize {
-    let p = text::put_bytes(out, at, b"= ok ");
-    text::put_decimal(out, p, cursor as u64)
-}
-
-fn put_refused(out: &mut [u8], at: usize, n: u32) -> usize {
+// A line of `= refused` and the refusal's number.
+fn put_refusal(out: &mut [u8], at: usize, refusal: Refusal) -> usize {
     let p = text::put_bytes(out, at, b"= refused ");
-    text::put_decimal(out, p, n as u64)
+    let p = text::put_decimal(out, p, u64::from(u32::from(refusal)));
+    text::put_byte(out, p, b'\n')
 }
 
-fn put_rendered(out: &mut [u8], at: usize, cursor: usize, frames: usize) -> usize {
-    let p = put_ok(out, at, cursor);
-    let p = text::put_byte(out, p, b' ');
-    text::put_decimal(out, p, frames as u64)
-}
-
-fn put_words(out: &mut [u8], at: usize, a: Answer) -> usize {
-    match a {
-        Answer::Refused(n) => put_refused(out, at, n),
-        Answer::Kept(cursor) => put_ok(out, at, cursor),
-        Answer::Rendered(cursor, frames) => put_rendered(out, at, cursor, frames),
+// A line of `= ok` and the numbers, the cursor first.
+fn put_ok(out: &mut [u8], at: usize, numbers: &[usize]) -> usize {
+    let mut p = text::put_bytes(out, at, b"= ok");
+    for n in numbers {
+        p = text::put_byte(out, p, b' ');
+        p = text::put_decimal(out, p, *n as u64);
     }
+    text::put_byte(out, p, b'\n')
 }
 
 // A call's answer as a line.
-fn put_answer(out: &mut [u8], at: usize, a: Answer) -> usize {
-    let p = put_words(out, at, a);
-    text::put_byte(out, p, b'\n')
-}
-
-fn is_accepted(a: Answer) -> bool {
-    match a {
-        Answer::Refused(_) => false,
-        Answer::Kept(_) => true,
-        Answer::Rendered(_, _) => true,
+fn put_answer(out: &mut [u8], at: usize, answer: Result<usize, Refusal>) -> usize {
+    match answer {
+        Ok(cursor) => put_ok(out, at, &[cursor]),
+        Err(refusal) => put_refusal(out, at, refusal),
     }
 }
 
-// The cursor after a call, which keeps it where it is refused.
-fn cursor_after(a: Answer, cursor: usize) -> usize {
-    match a {
-        Answer::Refused(_) => cursor,
-        Answer::Kept(c) => c,
-        Answer::Rendered(c, _) => c,
-    }
+// `table`, or `table3` with three axes, active gain nums: `most` numbers at most
+fn table_at(s: &[u8], three: bool, most: usize) -> Option<Table> {
+    let [active] = decimals::<1>(s, 1)?;
+    let [gain] = floats::<1>(s, 2)?;
+    let mut sections = [0f32; 320];
+    read_list(s, 3, first_mut(&mut sections, most))?;
+    Some(Table {
+        active: u32_of(active),
+        three,
+        sections,
+        gain,
+    })
 }
 
-// A scenario's start: no lists, a table of two axes and zeros, active 0, gain 1, and a chord of no teeth.
-fn fresh() -> State {
-    State {
-        setup: Setup {
-            code: 0,
-            rate: 0.0,
-            reference: 0.0,
-            voices: 0,
-            channels: 0,
-            clean: false,
-            table: Table {
-                active: 0,
-                three: false,
-                sections: [0f32; 320],
-                gain: 1.0,
-            },
-            chord: Chord {
-                count: 0,
-                offsets: [0f32; 8],
-            },
-        },
-        cursor: 0,
-        own: Lengths {
-            targets: 0,
-            records: 0,
-            delay: 0,
-        },
-        lent: Lengths {
-            targets: 0,
-            records: 0,
-            delay: 0,
-        },
-        counts: 0,
-        said: false,
-        scratch: Lengths {
-            targets: 0,
-            records: 0,
-            delay: 0,
-        },
-        told: false,
-        heard: false,
-        frames: 0,
-        steered: false,
-        digest: false,
-        awaited: 0,
+// `chord` n o1 .. o8
+fn chord_at(s: &[u8]) -> Option<Chord> {
+    let [n] = decimals::<1>(s, 1)?;
+    let offsets = floats::<8>(s, 2)?;
+    if !ends_at(s, 10) {
+        return None;
+    }
+    Some(Chord {
+        count: u32_of(n),
+        offsets,
+    })
+}
+
+// The setup of words 1 to 6, with another's table and chord.
+fn setup_at(s: &[u8], old: Setup) -> Option<Setup> {
+    let [code] = decimals::<1>(s, 1)?;
+    let [rate, reference] = floats::<2>(s, 2)?;
+    let [voices, channels, clean] = decimals::<3>(s, 4)?;
+    Some(Setup {
+        code: u32_of(code),
+        rate,
+        reference,
+        voices,
+        channels,
+        clean: clean != 0,
+        ..old
+    })
+}
+
+// The three lengths that are the line's last words, from word k on.
+fn lengths_at(s: &[u8], k: usize) -> Option<Lengths> {
+    let [targets, records, delay] = decimals::<3>(s, k)?;
+    if targets > 177 || records > 1025 || delay > 65537 {
+        return None;
+    }
+    Some(Lengths {
+        targets,
+        records,
+        delay,
+    })
+}
+
+// The decimal that is the line's only word after its name.
+fn number(s: &[u8]) -> Option<usize> {
+    let [n] = decimals::<1>(s, 1)?;
+    ends_at(s, 2).then_some(n)
+}
+
+// `set` voice and ten floats
+fn set_at(s: &[u8]) -> Option<Command> {
+    let [voice] = decimals::<1>(s, 1)?;
+    let [
+        resonance,
+        drive,
+        saturation,
+        character,
+        stereo_offset,
+        mix,
+        level,
+        morph_x,
+        morph_y,
+        morph_z,
+    ] = floats::<10>(s, 2)?;
+    if !ends_at(s, 12) {
+        return None;
+    }
+    let params = VoiceParams {
+        resonance,
+        drive,
+        saturation,
+        character,
+        stereo_offset,
+        mix,
+        level,
+        morph_x,
+        morph_y,
+        morph_z,
+    };
+    Some(Command::Set(voice, params))
+}
+
+// `block`, `blockh` or `audition` frames steered; the lines of four lists follow.
+fn block_at(s: &[u8], call: Call) -> Option<Command> {
+    let [frames, steered] = decimals::<2>(s, 1)?;
+    if !ends_at(s, 3) {
+        return None;
+    }
+    Some(Command::Block(Block {
+        call,
+        frames,
+        steered: steered != 0,
         pitch: 0,
         x: 0,
         y: 0,
         audio: 0,
-    }
+    }))
 }
 
-// `table`, or `table3` with three axes, active gain nums
-fn table_at(s: &[u8], three: bool) -> TableRead {
-    let mut sections = [0f32; 320];
-    let read = read_list(s, words::start(s, 0, 3), &mut sections);
-    let most = if three { 320 } else { 160 };
-    TableRead {
-        table: Table {
-            active: u32_at(s, 1),
-            three: three,
-            sections: sections,
-            gain: words::float_at(s, 0, 2),
-        },
-        ok: read.ok
-            & (read.count <= most)
-            & words::are_decimals(s, 0, 1, 1)
-            & words::are_floats(s, 0, 2, 1),
-    }
-}
-
-// The setup of words 1 to 6, with another's table and chord.
-fn setup_at(s: &[u8], old: Setup) -> Setup {
-    let table = old.table;
-    let chord = old.chord;
-    Setup {
-        code: u32_at(s, 1),
-        rate: words::float_at(s, 0, 2),
-        reference: words::float_at(s, 0, 3),
-        voices: count_at(s, 0, 4),
-        channels: count_at(s, 0, 5),
-        clean: count_at(s, 0, 6) != 0,
-        table: table,
-        chord: chord,
-    }
-}
-
-fn is_setup(s: &[u8]) -> bool {
-    words::are_decimals(s, 0, 1, 1)
-        & words::are_floats(s, 0, 2, 2)
-        & words::are_decimals(s, 0, 4, 3)
-}
-
-// The three lengths from the word at `at` on.
-fn lengths_at(s: &[u8], at: usize) -> Lengths {
-    Lengths {
-        targets: count_at(s, at, 0),
-        records: count_at(s, at, 1),
-        delay: count_at(s, at, 2),
-    }
-}
-
-fn are_lengths(s: &[u8], at: usize) -> bool {
-    let l = lengths_at(s, at);
-    words::are_decimals(s, at, 0, 3) & (l.targets <= 177) & (l.records <= 1025) & (l.delay <= 65537)
-}
-
-fn read_table(s: &[u8], st: State, three: bool) -> StateRead {
-    let mut next = st;
-    let read = table_at(s, three);
-    let mut setup = st.setup;
-    let table = read.table;
-    setup.table = table;
-    next.setup = setup;
-    StateRead {
-        state: next,
-        ok: read.ok,
-    }
-}
-
-// `chord` n o1 .. o8
-fn chord_at(s: &[u8]) -> Chord {
-    Chord {
-        count: u32_at(s, 1),
-        offsets: [
-            words::float_at(s, 0, 2),
-            words::float_at(s, 0, 3),
-            words::float_at(s, 0, 4),
-            words::float_at(s, 0, 5),
-            words::float_at(s, 0, 6),
-            words::float_at(s, 0, 7),
-            words::float_at(s, 0, 8),
-            words::float_at(s, 0, 9),
-        ],
-    }
-}
-
-fn read_chord(s: &[u8], st: State) -> StateRead {
-    let mut next = st;
-    let mut setup = st.setup;
-    let chord = chord_at(s);
-    setup.chord = chord;
-    next.setup = setup;
-    StateRead {
-        state: next,
-        ok: ends_at(s, 10) & words::are_decimals(s, 0, 1, 1) & words::are_floats(s, 0, 2, 8),
-    }
-}
-
-fn read_setup(s: &[u8], st: State) -> StateRead {
-    let mut next = st;
-    let setup = setup_at(s, st.setup);
-    next.setup = setup;
-    StateRead {
-        state: next,
-        ok: ends_at(s, 7) & is_setup(s),
-    }
-}
-
-// `open` code rate reference voices channels clean T R D
-fn read_open(s: &[u8], st: State) -> StateRead {
-    let mut next = st;
-    let setup = setup_at(s, st.setup);
-    let at = words::start(s, 0, 7);
-    let own = lengths_at(s, at);
-    next.setup = setup;
-    next.cursor = 0;
-    next.own = own;
-    next.lent = own;
-    StateRead {
-        state: next,
-        ok: ends_at(s, 10) & is_setup(s) & are_lengths(s, at),
-    }
-}
-
-fn read_lend(s: &[u8], st: State) -> StateRead {
-    let mut next = st;
-    let at = words::start(s, 0, 1);
-    let lent = lengths_at(s, at);
-    next.lent = lent;
-    StateRead {
-        state: next,
-        ok: ends_at(s, 4) & are_lengths(s, at),
-    }
-}
-
-fn read_cursor(s: &[u8], st: State) -> StateRead {
-    let mut next = st;
-    next.cursor = count_at(s, 0, 1);
-    StateRead {
-        state: next,
-        ok: ends_at(s, 2) & words::are_decimals(s, 0, 1, 1),
-    }
-}
-
-// `counts` n
-fn read_counts(s: &[u8], st: State) -> StateRead {
-    let mut next = st;
-    let n = count_at(s, 0, 1);
-    next.counts = n;
-    next.said = true;
-    StateRead {
-        state: next,
-        ok: ends_at(s, 2) & words::are_decimals(s, 0, 1, 1) & (n <= 1024),
-    }
-}
-
-// `scratch` T R D
-fn read_scratch(s: &[u8], st: State) -> StateRead {
-    let mut next = st;
-    let at = words::start(s, 0, 1);
-    let scratch = lengths_at(s, at);
-    next.scratch = scratch;
-    next.told = true;
-    StateRead {
-        state: next,
-        ok: ends_at(s, 4) & are_lengths(s, at),
-    }
-}
-
-// `block`, `blockh` or `audition` frames steered; four lines follow.
-fn read_block(s: &[u8], st: State, digest: bool, heard: bool) -> StateRead {
-    let mut next = st;
-    next.heard = heard;
-    next.frames = count_at(s, 0, 1);
-    next.steered = count_at(s, 0, 2) != 0;
-    next.digest = digest;
-    next.awaited = 4;
-    StateRead {
-        state: next,
-        ok: ends_at(s, 3) & words::are_decimals(s, 0, 1, 2),
-    }
-}
-
-// Whether a line that changes no state can be read.
-fn is_read(word: usize, s: &[u8]) -> bool {
-    match word {
-        6 => words::are_decimals(s, 0, 2, 1),
-        7 => ends_at(s, 12) & words::are_decimals(s, 0, 1, 1) & words::are_floats(s, 0, 2, 10),
-        8 => ends_at(s, 2) & words::are_decimals(s, 0, 1, 1),
-        _ => word <= 15,
-    }
-}
-
-// What a line says beside the lists' numbers. `word` counts the names in `command_at`.
-fn read_state(word: usize, s: &[u8], st: State) -> StateRead {
-    match word {
-        0 => StateRead {
-            state: fresh(),
-            ok: true,
-        },
-        1 => read_table(s, st, false),
-        2 => read_open(s, st),
-        3 => read_setup(s, st),
-        4 => read_lend(s, st),
-        5 => read_cursor(s, st),
-        9 => read_block(s, st, false, false),
-        10 => read_block(s, st, true, false),
-        16 => read_counts(s, st),
-        17 => read_block(s, st, false, true),
-        18 => read_scratch(s, st),
-        19 => read_table(s, st, true),
-        20 => read_chord(s, st),
-        _ => StateRead {
-            state: st,
-            ok: is_read(word, s),
-        },
-    }
-}
-
-// `poke` t|r|d at nums
-fn poke_list(
-    s: &[u8],
-    own: Lengths,
-    targets: &mut [f32; 177],
-    records: &mut [f32; 1025],
-    delay: &mut [f32; 65537],
-) -> ListRead {
-    let list = words::name_at(b"t r d", 3, s, words::start(s, 0, 1));
-    match list {
-        0 => poke(s, own.targets, targets),
-        1 => poke(s, own.records, records),
-        2 => poke(s, own.delay, delay),
-        _ => ListRead {
-            count: 0,
-            ok: false,
-        },
-    }
-}
-
-// The numbers of a line that go into a list.
-fn read_numbers(
-    word: usize,
-    s: &[u8],
-    own: Lengths,
-    targets: &mut [f32; 177],
-    records: &mut [f32; 1025],
-    delay: &mut [f32; 65537],
-    pitch: &mut [f32; 8192],
-    x: &mut [f32; 8192],
-    y: &mut [f32; 8192],
-    audio: &mut [f32; 16384],
-) -> ListRead {
-    let from = words::start(s, 0, 1);
-    match word {
-        6 => poke_list(s, own, targets, records, delay),
-        12 => read_list(s, from, pitch),
-        13 => read_list(s, from, x),
-        14 => read_list(s, from, y),
-        15 => read_list(s, from, audio),
-        _ => ListRead { count: 0, ok: true },
-    }
-}
-
-// The lines of a block go p, x, y, a, and no other line stands between them.
-fn in_order(word: usize, awaited: usize) -> bool {
-    match word {
-        12 => awaited == 4,
-        13 => awaited == 3,
-        14 => awaited == 2,
-        15 => awaited == 1,
-        _ => awaited == 0,
-    }
-}
-
-// The state after a line of a block that has `count` numbers.
-fn counted(word: usize, st: State, count: usize) -> State {
-    let mut next = st;
-    match word {
-        12 => {
-            next.pitch = count;
-            next.awaited = 3;
-        }
-        13 => {
-            next.x = count;
-            next.awaited = 2;
-        }
-        14 => {
-            next.y = count;
-            next.awaited = 1;
-        }
-        15 => {
-            next.audio = count;
-            next.awaited = 0;
-        }
-        _ => {}
-    }
-    next
-}
-
-// Writes halves up to n.
-fn fill_halves(xs: &mut [f32], n: usize) {
-    let n = at_most(n, xs.len());
-    fill(xs, 0, n, 0.5);
-}
-
-fn open_lists(
-    setup: Setup,
-    own: Lengths,
-    targets: &mut [f32],
-    records: &mut [f32],
-    delay: &mut [f32],
-) -> Answer {
-    let t = at_most(own.targets, targets.len());
-    let r = at_most(own.records, records.len());
-    let d = at_most(own.delay, delay.len());
-    let opened = bank::open(
-        setup,
-        &mut targets[0..t],
-        &mut records[0..r],
-        &mut delay[0..d],
-    );
-    let a = opened.answer;
-    a
-}
-
-// The lists anew, each number a half, and `open`.
-fn open_call(
-    st: State,
-    targets: &mut [f32],
-    records: &mut [f32],
-    delay: &mut [f32],
-    out: &mut [u8],
-    at: usize,
-) -> usize {
-    let own = st.own;
-    fill_halves(targets, own.targets);
-    fill_halves(records, own.records);
-    fill_halves(delay, own.delay);
-    let a = open_lists(st.setup, own, targets, records, delay);
-    put_answer(out, at, a)
-}
-
-// The ten settings from word 2 on.
-fn params_at(s: &[u8]) -> VoiceParams {
-    VoiceParams {
-        resonance: words::float_at(s, 0, 2),
-        drive: words::float_at(s, 0, 3),
-        saturation: words::float_at(s, 0, 4),
-        character: words::float_at(s, 0, 5),
-        stereo_offset: words::float_at(s, 0, 6),
-        mix: words::float_at(s, 0, 7),
-        level: words::float_at(s, 0, 8),
-        morph_x: words::float_at(s, 0, 9),
-        morph_y: words::float_at(s, 0, 10),
-        morph_z: words::float_at(s, 0, 11),
-    }
-}
-
-// The eleven targets of a voice.
-fn put_voice(out: &mut [u8], at: usize, voice: usize, targets: &[f32]) -> usize {
-    let from = 11 * at_most(voice, 15);
-    if from + 11 <= targets.len() {
-        return put_list(out, at, b't', &targets[from..from + 11]);
-    }
-    at
-}
-
-// `set` voice and ten floats; where it is accepted the voice's targets follow the answer.
-fn set_call(s: &[u8], st: State, targets: &mut [f32], out: &mut [u8], at: usize) -> usize {
-    let voice = count_at(s, 0, 1);
-    let lent = st.lent;
-    let t = at_most(lent.targets, targets.len());
-    let a = bank::set(st.setup, st.cursor, &mut targets[0..t], voice, params_at(s));
-    let p = put_answer(out, at, a);
-    if is_accepted(a) {
-        return put_voice(out, p, voice, targets);
-    }
-    p
-}
-
-fn start_call(
-    st: State,
-    voice: usize,
-    targets: &[f32],
-    records: &mut [f32],
-    delay: &mut [f32],
-    out: &mut [u8],
-    at: usize,
-) -> usize {
-    let lent = st.lent;
-    let t = at_most(lent.targets, targets.len());
-    let r = at_most(lent.records, records.len());
-    let d = at_most(lent.delay, delay.len());
-    let a = bank::start(
-        st.setup,
-        st.cursor,
-        &targets[0..t],
-        &mut records[0..r],
-        &mut delay[0..d],
-        voice,
-    );
-    put_answer(out, at, a)
-}
-
-// How many counts the block is lent: as a `counts` line said, or one a slot. More voices than 16, or channels than 2, are refused
-// before the lists are measured.
-fn counts_of(st: State) -> usize {
-    if st.said {
-        return st.counts;
-    }
-    let setup = st.setup;
-    let voices = at_most(setup.voices, 16);
-    if setup.channels == 2 {
-        2 * voices
-    } else {
-        voices
-    }
-}
-
-fn block_call(
-    st: State,
-    targets: &[f32],
-    records: &mut [f32],
-    delay: &mut [f32],
-    pitch: &[f32],
-    x: &[f32],
-    y: &[f32],
-    audio: &mut [f32],
-    counts: &mut [u32],
-) -> Answer {
-    let lent = st.lent;
-    let t = at_most(lent.targets, targets.len());
-    let r = at_most(lent.records, records.len());
-    let d = at_most(lent.delay, delay.len());
-    let pn = at_most(st.pitch, pitch.len());
-    let xn = at_most(st.x, x.len());
-    let yn = at_most(st.y, y.len());
-    let an = at_most(st.audio, audio.len());
-    let cn = at_most(counts_of(st), counts.len());
-    bank::block(
-        st.setup,
-        st.cursor,
-        &targets[0..t],
-        &mut records[0..r],
-        &mut delay[0..d],
-        st.frames,
-        &pitch[0..pn],
-        st.steered,
-        &x[0..xn],
-        &y[0..yn],
-        &mut audio[0..an],
-        &mut counts[0..cn],
-    )
-}
-
-// How long the scratch lists of an audition are: as a `scratch` line said, or as the bank's.
-fn scratch_of(st: State) -> Lengths {
-    if st.told {
-        let scratch = st.scratch;
-        return scratch;
-    }
-    let lent = st.lent;
-    lent
-}
-
-fn audition_call(
-    st: State,
-    targets: &[f32],
-    records: &[f32],
-    delay: &[f32],
-    scratch_targets: &mut [f32],
-    scratch_records: &mut [f32],
-    scratch_delay: &mut [f32],
-    pitch: &[f32],
-    x: &[f32],
-    y: &[f32],
-    audio: &mut [f32],
-    counts: &mut [u32],
-) -> Answer {
-    let lent = st.lent;
-    let scratch = scratch_of(st);
-    let t = at_most(lent.targets, targets.len());
-    let r = at_most(lent.records, records.len());
-    let d = at_most(lent.delay, delay.len());
-    let ts = at_most(scratch.targets, scratch_targets.len());
-    let rs = at_most(scratch.records, scratch_records.len());
-    let ds = at_most(scratch.delay, scratch_delay.len());
-    let pn = at_most(st.pitch, pitch.len());
-    let xn = at_most(st.x, x.len());
-    let yn = at_most(st.y, y.len());
-    let an = at_most(st.audio, audio.len());
-    let cn = at_most(counts_of(st), counts.len());
-    auditions::audition(
-        st.setup,
-        st.cursor,
-        &targets[0..t],
-        &records[0..r],
-        &delay[0..d],
-        &mut scratch_targets[0..ts],
-        &mut scratch_records[0..rs],
-        &mut scratch_delay[0..ds],
-        st.frames,
-        &pitch[0..pn],
-        st.steered,
-        &x[0..xn],
-        &y[0..yn],
-        &mut audio[0..an],
-        &mut counts[0..cn],
-    )
-}
-
-// A block's samples or their sums.
-fn put_samples(out: &mut [u8], at: usize, digest: bool, audio: &[f32]) -> usize {
-    if digest {
-        return put_digest(out, at, audio);
-    }
-    put_list(out, at, b'o', audio)
-}
-
-// A block's answer, and its samples or their sums and its counts where it is accepted.
-fn put_block(
-    out: &mut [u8],
-    at: usize,
-    a: Answer,
-    st: State,
-    audio: &[f32],
-    counts: &[u32],
-) -> usize {
-    let an = at_most(st.audio, audio.len());
-    let cn = at_most(counts_of(st), counts.len());
-    let p = put_answer(out, at, a);
-    if is_accepted(a) {
-        let p = put_samples(out, p, st.digest, &audio[0..an]);
-        return put_counts(out, p, &counts[0..cn]);
-    }
-    p
-}
-
-// All targets, records and delay.
-fn dump(
-    own: Lengths,
-    targets: &[f32],
-    records: &[f32],
-    delay: &[f32],
-    out: &mut [u8],
-    at: usize,
-) -> usize {
-    let t = at_most(own.targets, targets.len());
-    let r = at_most(own.records, records.len());
-    let d = at_most(own.delay, delay.len());
-    let p = put_list(out, at, b't', &targets[0..t]);
-    let p = put_list(out, p, b'r', &records[0..r]);
-    put_list(out, p, b'd', &delay[0..d])
-}
-
-// The state after a call: the next is handed this cursor and lent the lists at their own lengths.
-fn after_call(st: State, cursor: usize) -> State {
-    let mut next = st;
-    let own = st.own;
-    next.cursor = cursor;
-    next.lent = own;
-    next
-}
-
-// The same after a block: the next one is lent a count a slot.
-fn after_block(st: State, cursor: usize) -> State {
-    let mut next = after_call(st, cursor);
-    next.said = false;
-    next
-}
-
-// The same after an audition, which leaves the cursor: the next one's scratch is as long as the bank's lists.
-fn after_audition(st: State) -> State {
-    let mut next = after_block(st, st.cursor);
-    next.told = false;
-    next
-}
-
-// The state after a line that is no block's.
-fn state_after(word: usize, st: State) -> State {
-    match word {
-        7 | 8 => after_call(st, st.cursor),
-        _ => st,
-    }
-}
-
-// Makes the call of a line that is no block's and writes its answer after the line.
-fn call(
-    word: usize,
-    s: &[u8],
-    st: State,
-    targets: &mut [f32],
-    records: &mut [f32],
-    delay: &mut [f32],
-    out: &mut [u8],
-    at: usize,
-) -> usize {
-    match word {
-        2 => open_call(st, targets, records, delay, out, at),
-        7 => set_call(s, st, targets, out, at),
-        8 => start_call(st, count_at(s, 0, 1), targets, records, delay, out, at),
-        11 => dump(st.own, targets, records, delay, out, at),
-        _ => at,
-    }
-}
-
-// The same of a block, whose last line has been read. Each of the lent counts is 7 before.
-fn block_line(
-    st: State,
-    targets: &[f32],
-    records: &mut [f32],
-    delay: &mut [f32],
-    pitch: &[f32],
-    x: &[f32],
-    y: &[f32],
-    audio: &mut [f32],
-    out: &mut [u8],
-    at: usize,
-) -> Step {
-    let mut counts = [7u32; 1024];
-    let a = block_call(st, targets, records, delay, pitch, x, y, audio, &mut counts);
-    Step {
-        state: after_block(st, cursor_after(a, st.cursor)),
-        at: put_block(out, at, a, st, audio, &counts),
-    }
-}
-
-// An audition's answer, and the scratch where it is accepted.
-fn put_audition(
-    out: &mut [u8],
-    at: usize,
-    a: Answer,
-    st: State,
-    audio: &[f32],
-    counts: &[u32],
-    scratch_targets: &[f32],
-    scratch_records: &[f32],
-    scratch_delay: &[f32],
-) -> usize {
-    let p = put_block(out, at, a, st, audio, counts);
-    if is_accepted(a) {
-        return dump(
-            scratch_of(st),
-            scratch_targets,
-            scratch_records,
-            scratch_delay,
-            out,
-            p,
-        );
-    }
-    p
-}
-
-// The same of an audition. Each number of its scratch is a quarter before.
-fn audition_line(
-    st: State,
-    targets: &[f32],
-    records: &[f32],
-    delay: &[f32],
-    pitch: &[f32],
-    x: &[f32],
-    y: &[f32],
-    audio: &mut [f32],
-    out: &mut [u8],
-    at: usize,
-) -> Step {
-    let mut counts = [7u32; 1024];
-    let mut scratch_targets = [0.25f32; 177];
-    let mut scratch_records = [0.25f32; 1025];
-    let mut scratch_delay = [0.25f32; 65537];
-    let a = audition_call(
-        st,
+// `poke` t|r|d at nums: writes the numbers into a list of the bank from `at` on. Where `at` cannot be read they go to the list's start.
+fn poke(s: &[u8], own: Lengths, lists: &mut Lists) -> Option<Command> {
+    let Lists {
         targets,
         records,
         delay,
-        &mut scratch_targets,
-        &mut scratch_records,
-        &mut scratch_delay,
-        pitch,
-        x,
-        y,
-        audio,
-        &mut counts,
-    );
-    Step {
-        state: after_audition(st),
-        at: put_audition(
-            out,
-            at,
-            a,
-            st,
-            audio,
-            &counts,
-            &scratch_targets,
-            &scratch_records,
-            &scratch_delay,
-        ),
+    } = lists;
+    let xs = match word(s, 1)? {
+        b"t" => first_mut(targets, own.targets),
+        b"r" => first_mut(records, own.records),
+        b"d" => first_mut(delay, own.delay),
+        _ => return None,
+    };
+    let at = decimals::<1>(s, 2);
+    let [from] = at.unwrap_or([0]);
+    read_list(s, 3, xs.get_mut(from..)?)?;
+    at.map(|_| Command::Poke)
+}
+
+// Reads a line. The numbers of a list go into that list at once, even where the rest of the line cannot be read.
+fn read_command(
+    s: &[u8],
+    state: &State,
+    lists: &mut Lists,
+    signals: &mut Signals,
+) -> Option<Command> {
+    let command = match word(s, 0)? {
+        b"scenario" => Command::Scenario,
+        b"table" => Command::Setup(Setup {
+            table: table_at(s, false, 160)?,
+            ..state.setup
+        }),
+        b"table3" => Command::Setup(Setup {
+            table: table_at(s, true, 320)?,
+            ..state.setup
+        }),
+        b"chord" => Command::Setup(Setup {
+            chord: chord_at(s)?,
+            ..state.setup
+        }),
+        b"setup" if ends_at(s, 7) => Command::Setup(setup_at(s, state.setup)?),
+        b"open" if ends_at(s, 10) => Command::Open(setup_at(s, state.setup)?, lengths_at(s, 7)?),
+        b"lend" if ends_at(s, 4) => Command::Lend(lengths_at(s, 1)?),
+        b"scratch" if ends_at(s, 4) => Command::Scratch(lengths_at(s, 1)?),
+        b"cursor" => Command::Cursor(number(s)?),
+        b"counts" => Command::Counts(number(s).filter(|n| *n <= 1024)?),
+        b"start" => Command::Start(number(s)?),
+        b"set" => set_at(s)?,
+        b"poke" => poke(s, state.own, lists)?,
+        b"block" => block_at(s, Call::Block)?,
+        b"blockh" => block_at(s, Call::BlockSums)?,
+        b"audition" => block_at(s, Call::Audition)?,
+        b"p" => Command::Pitch(read_list(s, 1, &mut signals.pitch)?),
+        b"x" => Command::X(read_list(s, 1, &mut signals.x)?),
+        b"y" => Command::Y(read_list(s, 1, &mut signals.y)?),
+        b"a" => Command::Audio(read_list(s, 1, &mut signals.audio)?),
+        b"dump" => Command::Dump,
+        _ => return None,
+    };
+    Some(command)
+}
+
+impl State {
+    // A scenario's start: no lists, a table of two axes and zeros, active 0, gain 1, and a chord of no teeth.
+    fn fresh() -> State {
+        State {
+            setup: Setup {
+                code: 0,
+                rate: 0.0,
+                reference: 0.0,
+                voices: 0,
+                channels: 0,
+                clean: false,
+                table: Table {
+                    active: 0,
+                    three: false,
+                    sections: [0f32; 320],
+                    gain: 1.0,
+                },
+                chord: Chord {
+                    count: 0,
+                    offsets: [0f32; 8],
+                },
+            },
+            cursor: 0,
+            own: Lengths::default(),
+            lent: Lengths::default(),
+            counts: None,
+            scratch: None,
+            awaited: Awaited::Call,
+        }
+    }
+
+    // How many counts the next block is lent: as a `counts` line said, or one a slot. More voices than 16, or channels than 2, are
+    // refused before the lists are measured.
+    fn counts_lent(&self) -> usize {
+        let voices = self.setup.voices.min(16);
+        let slots = if self.setup.channels == 2 {
+            2 * voices
+        } else {
+            voices
+        };
+        self.counts.unwrap_or(slots)
+    }
+
+    // How long the scratch of the next audition is: as a `scratch` line said, or as the bank's lists.
+    fn scratch_lent(&self) -> Lengths {
+        self.scratch.unwrap_or(self.lent)
     }
 }
 
-fn respond(
-    word: usize,
-    s: &[u8],
-    st: State,
-    targets: &mut [f32; 177],
-    records: &mut [f32; 1025],
-    delay: &mut [f32; 65537],
-    pitch: &[f32; 8192],
-    x: &[f32; 8192],
-    y: &[f32; 8192],
-    audio: &mut [f32; 16384],
-    out: &mut [u8; 524288],
-    at: usize,
-) -> Step {
-    if word == 15 {
-        if st.heard {
-            return audition_line(st, targets, records, delay, pitch, x, y, audio, out, at);
+impl Lists {
+    fn filled(value: f32) -> Lists {
+        Lists {
+            targets: [value; 177],
+            records: [value; 1025],
+            delay: [value; 65537],
         }
-        return block_line(st, targets, records, delay, pitch, x, y, audio, out, at);
     }
-    Step {
-        state: state_after(word, st),
-        at: call(word, s, st, targets, records, delay, out, at),
+
+    // All targets, records and delay, of these lengths.
+    fn dump(&self, n: Lengths, out: &mut [u8], at: usize) -> usize {
+        let p = put_list(out, at, b't', first(&self.targets, n.targets));
+        let p = put_list(out, p, b'r', first(&self.records, n.records));
+        put_list(out, p, b'd', first(&self.delay, n.delay))
     }
+}
+
+// The lists anew, each number a half, and `open`.
+fn open_call(state: &State, lists: &mut Lists, out: &mut [u8], at: usize) -> usize {
+    let Lists {
+        targets,
+        records,
+        delay,
+    } = lists;
+    let targets = first_mut(targets, state.own.targets);
+    let records = first_mut(records, state.own.records);
+    let delay = first_mut(delay, state.own.delay);
+    targets.fill(0.5);
+    records.fill(0.5);
+    delay.fill(0.5);
+    let opened = bank::open(state.setup, targets, records, delay);
+    put_answer(out, at, opened.answer)
+}
+
+// `set`; where it is accepted the voice's eleven targets follow the answer.
+fn set_call(
+    state: &State,
+    voice: usize,
+    params: VoiceParams,
+    lists: &mut Lists,
+    out: &mut [u8],
+    at: usize,
+) -> usize {
+    let lent = first_mut(&mut lists.targets, state.lent.targets);
+    match bank::set(state.setup, state.cursor, lent, voice, params) {
+        Ok(cursor) => {
+            let p = put_ok(out, at, &[cursor]);
+            let from = 11 * voice.min(15);
+            put_list(out, p, b't', &lists.targets[from..from + 11])
+        }
+        Err(refusal) => put_refusal(out, at, refusal),
+    }
+}
+
+fn start_call(state: &State, voice: usize, lists: &mut Lists, out: &mut [u8], at: usize) -> usize {
+    let Lists {
+        targets,
+        records,
+        delay,
+    } = lists;
+    let started = bank::start(
+        state.setup,
+        state.cursor,
+        first(targets, state.lent.targets),
+        first_mut(records, state.lent.records),
+        first_mut(delay, state.lent.delay),
+        voice,
+    );
+    put_answer(out, at, started)
+}
+
+fn block_call(
+    state: &State,
+    block: Block,
+    lists: &mut Lists,
+    signals: &mut Signals,
+    counts: &mut [u32],
+) -> Result<Rendered, Refusal> {
+    let Lists {
+        targets,
+        records,
+        delay,
+    } = lists;
+    let Signals { pitch, x, y, audio } = signals;
+    bank::block(
+        state.setup,
+        state.cursor,
+        first(targets, state.lent.targets),
+        first_mut(records, state.lent.records),
+        first_mut(delay, state.lent.delay),
+        block.frames,
+        first(pitch, block.pitch),
+        block.steered,
+        first(x, block.x),
+        first(y, block.y),
+        first_mut(audio, block.audio),
+        counts,
+    )
+}
+
+fn audition_call(
+    state: &State,
+    block: Block,
+    lists: &Lists,
+    scratch: &mut Lists,
+    signals: &mut Signals,
+    counts: &mut [u32],
+) -> Result<Rendered, Refusal> {
+    let lengths = state.scratch_lent();
+    let Lists {
+        targets,
+        records,
+        delay,
+    } = scratch;
+    let Signals { pitch, x, y, audio } = signals;
+    auditions::audition(
+        state.setup,
+        state.cursor,
+        first(&lists.targets, state.lent.targets),
+        first(&lists.records, state.lent.records),
+        first(&lists.delay, state.lent.delay),
+        first_mut(targets, lengths.targets),
+        first_mut(records, lengths.records),
+        first_mut(delay, lengths.delay),
+        block.frames,
+        first(pitch, block.pitch),
+        block.steered,
+        first(x, block.x),
+        first(y, block.y),
+        first_mut(audio, block.audio),
+        counts,
+    )
+}
+
+// An accepted block: the cursor and the frames rendered, its samples or their sums, and its counts.
+fn put_block(
+    out: &mut [u8],
+    at: usize,
+    rendered: Rendered,
+    call: Call,
+    audio: &[f32],
+    counts: &[u32],
+) -> usize {
+    let p = put_ok(out, at, &[rendered.cursor, rendered.frames]);
+    let p = if call == Call::BlockSums {
+        put_digest(out, p, audio)
+    } else {
+        put_list(out, p, b'o', audio)
+    };
+    put_counts(out, p, counts)
+}
+
+// A block, whose last line has been read. Each of the lent counts is 7 before.
+fn block_line(
+    state: &mut State,
+    block: Block,
+    lists: &mut Lists,
+    signals: &mut Signals,
+    out: &mut [u8],
+    at: usize,
+) -> usize {
+    let mut counts = [7u32; 1024];
+    let counts = first_mut(&mut counts, state.counts_lent());
+    match block_call(state, block, lists, signals, counts) {
+        Ok(rendered) => {
+            state.cursor = rendered.cursor;
+            let audio = first(&signals.audio, block.audio);
+            put_block(out, at, rendered, block.call, audio, counts)
+        }
+        Err(refusal) => put_refusal(out, at, refusal),
+    }
+}
+
+// The same of an audition, which leaves the cursor; the scratch follows where it is accepted. Each number of it is a quarter before.
+fn audition_line(
+    state: &State,
+    block: Block,
+    lists: &Lists,
+    signals: &mut Signals,
+    out: &mut [u8],
+    at: usize,
+) -> usize {
+    let mut counts = [7u32; 1024];
+    let counts = first_mut(&mut counts, state.counts_lent());
+    let mut scratch = Lists::filled(0.25);
+    match audition_call(state, block, lists, &mut scratch, signals, counts) {
+        Ok(rendered) => {
+            let audio = first(&signals.audio, block.audio);
+            let p = put_block(out, at, rendered, block.call, audio, counts);
+            scratch.dump(state.scratch_lent(), out, p)
+        }
+        Err(refusal) => put_refusal(out, at, refusal),
+    }
+}
+
+// Does what a line says that is none of a block's lists, and writes the answer of a call after the line.
+fn respond(
+    state: &mut State,
+    command: Command,
+    lists: &mut Lists,
+    out: &mut [u8],
+    at: usize,
+) -> Option<usize> {
+    match command {
+        Command::Scenario => *state = State::fresh(),
+        Command::Setup(setup) => state.setup = setup,
+        Command::Lend(lent) => state.lent = lent,
+        Command::Cursor(cursor) => state.cursor = cursor,
+        Command::Counts(n) => state.counts = Some(n),
+        Command::Scratch(lengths) => state.scratch = Some(lengths),
+        Command::Block(block) => state.awaited = Awaited::Pitch(block),
+        Command::Poke => {}
+        Command::Open(setup, own) => {
+            *state = State {
+                setup,
+                cursor: 0,
+                own,
+                lent: own,
+                ..*state
+            };
+            return Some(open_call(state, lists, out, at));
+        }
+        Command::Set(voice, params) => {
+            let end = set_call(state, voice, params, lists, out, at);
+            state.lent = state.own;
+            return Some(end);
+        }
+        Command::Start(voice) => {
+            let end = start_call(state, voice, lists, out, at);
+            state.lent = state.own;
+            return Some(end);
+        }
+        Command::Dump => return Some(lists.dump(state.own, out, at)),
+        Command::Pitch(_) | Command::X(_) | Command::Y(_) | Command::Audio(_) => return None,
+    }
+    Some(at)
 }
 
 // The line and its newline.
@@ -1101,245 +719,131 @@ fn put_line(out: &mut [u8], s: &[u8]) -> usize {
     text::put_byte(out, p, b'\n')
 }
 
-fn put_unread(out: &mut [u8]) -> usize {
-    text::put_bytes(out, 0, b"?\n")
-}
-
-// The place of the line's first word among the commands; 21 where it is none of them.
-fn command_at(s: &[u8]) -> usize {
-    words::name_at(
-        b"scenario table open setup lend cursor poke set start block blockh dump p x y a counts audition scratch table3 chord",
-        21,
-        s,
-        0,
+// Whether the line is of an answer, by its first word.
+fn is_answer(s: &[u8]) -> bool {
+    matches!(
+        word(s, 0),
+        Some([b'=' | b'o' | b'h' | b't' | b'r' | b'd' | b'c'])
     )
 }
 
-// A line that is no comment and no answer.
-fn command(
-    s: &[u8],
-    st: State,
-    targets: &mut [f32; 177],
-    records: &mut [f32; 1025],
-    delay: &mut [f32; 65537],
-    pitch: &mut [f32; 8192],
-    x: &mut [f32; 8192],
-    y: &mut [f32; 8192],
-    audio: &mut [f32; 16384],
-    out: &mut [u8; 524288],
-) -> Step {
-    let word = command_at(s);
-    let read = read_state(word, s, st);
-    let numbers = read_numbers(word, s, st.own, targets, records, delay, pitch, x, y, audio);
-    if read.ok & numbers.ok & in_order(word, st.awaited) {
-        let p = put_line(out, s);
-        return respond(
-            word,
-            s,
-            counted(word, read.state, numbers.count),
-            targets,
-            records,
-            delay,
-            pitch,
-            x,
-            y,
-            audio,
-            out,
-            p,
-        );
-    }
-    Step {
-        state: st,
-        at: put_unread(out),
-    }
-}
-
-fn is_comment(s: &[u8]) -> bool {
-    if s.len() == 0 {
-        return false;
-    }
-    s[0] == b'#'
-}
-
-fn is_command(s: &[u8]) -> bool {
-    if s.len() == 0 {
-        return false;
-    }
-    if s[0] == b'#' {
-        return false;
-    }
-    words::name_at(b"= o h t r d c", 7, s, 0) == 7
-}
-
-// A comment, and nothing of an answer.
-fn put_comment(out: &mut [u8], s: &[u8]) -> usize {
-    if is_comment(s) {
-        return put_line(out, s);
-    }
-    0
-}
-
-// Writes the first n bytes; none where `out` has fewer.
-fn write<W: Write>(output: &mut W, out: &[u8], n: usize) -> io::Result<()> {
-    if n <= out.len() {
-        return output.write_all(&out[0..n]);
-    }
-    Ok(())
-}
-
-// Reads a line without its newline, and writes it and its answer.
-fn line<W: Write>(
-    output: &mut W,
-    s: &[u8],
-    st: State,
-    targets: &mut [f32; 177],
-    records: &mut [f32; 1025],
-    delay: &mut [f32; 65537],
-    pitch: &mut [f32; 8192],
-    x: &mut [f32; 8192],
-    y: &mut [f32; 8192],
-    audio: &mut [f32; 16384],
-    out: &mut [u8; 524288],
-) -> io::Result<State> {
-    if is_command(s) {
-        let step = command(s, st, targets, records, delay, pitch, x, y, audio, out);
-        write(output, out, step.at)?;
-        let state = step.state;
-        return Ok(state);
-    }
-    let n = put_comment(out, s);
-    write(output, out, n)?;
-    Ok(st)
-}
-
-// The end of the line at `at`, of a text of n bytes.
-fn end_of(s: &[u8], n: usize, at: usize) -> usize
-    requires inside { at < n }
-    requires within { n ≤ length s.now }
-    ensures after { at ≤ result }
-    ensures before { result ≤ n }
-{
-    let end = text::line_end(&s[0..n], at);
-    if end < at {
-        return at;
-    }
-    if end > n { n } else { end }
-}
-
-// The position after a newline at `end`, or the text's end.
-fn after(at: usize, end: usize, n: usize) -> usize
-    requires inside { at < n }
-    requires after { at ≤ end }
-    ensures further { at < result }
-    ensures within { result ≤ n }
-{
-    if end < n { end + 1 } else { n }
-}
-
-// Every line of the first n bytes.
-fn replay<W: Write>(
-    output: &mut W,
-    s: &[u8],
-    n: usize,
-    targets: &mut [f32; 177],
-    records: &mut [f32; 1025],
-    delay: &mut [f32; 65537],
-    pitch: &mut [f32; 8192],
-    x: &mut [f32; 8192],
-    y: &mut [f32; 8192],
-    audio: &mut [f32; 16384],
-    out: &mut [u8; 524288],
-) -> io::Result<()> {
-    let n = at_most(n, s.len());
-    let mut st = fresh();
-    let mut at = 0;
-    while at < n {
-        let end = end_of(s, n, at);
-        st = line(
-            output,
-            &s[at..end],
-            st,
-            targets,
-            records,
-            delay,
-            pitch,
-            x,
-            y,
-            audio,
-            out,
-        )?;
-        at = after(at, end, n);
-    }
-    Ok(())
-}
-
-// Fills `buf` from its start with what the input has, and answers the number of bytes; what `buf` has no room for is not read.
-fn read_full<R: Read>(input: &mut R, buf: &mut [u8]) -> io::Result<usize>
-    ensures count { ReadsAtMost result buf.new }
-    ensures bytes { IfOk result (λ n. IfSome (R.remaining input.old)
-        (λ xs. take n buf.new ≡ take (length buf.new) xs)) }
-    ensures no_more { IfOk result (λ n. Consumes (R.remaining input.old) (R.remaining input.new) (take n buf.new)) }
-{
-    let mut n = 0;
-    while n < buf.len() {
-        let got = input.read(&mut buf[n..])?;
-        if got == 0 {
-            return Ok(n);
+impl Replay {
+    // Before the first line: a scenario's start, and zeros.
+    fn new() -> Replay {
+        Replay {
+            state: State::fresh(),
+            lists: Lists::filled(0.0),
+            signals: Signals {
+                pitch: [0f32; 8192],
+                x: [0f32; 8192],
+                y: [0f32; 8192],
+                audio: [0f32; 16384],
+            },
         }
-        n += got;
     }
-    Ok(n)
+
+    // Renders a block, or auditions it; the next call is lent the lists at their own lengths, and the next block a count a slot. After
+    // an audition the next one's scratch is as long as the bank's lists.
+    fn render(&mut self, block: Block, out: &mut [u8], at: usize) -> usize {
+        let Replay {
+            state,
+            lists,
+            signals,
+        } = self;
+        let end = match block.call {
+            Call::Block | Call::BlockSums => block_line(state, block, lists, signals, out, at),
+            Call::Audition => {
+                let end = audition_line(state, block, lists, signals, out, at);
+                state.scratch = None;
+                end
+            }
+        };
+        state.lent = state.own;
+        state.counts = None;
+        state.awaited = Awaited::Call;
+        end
+    }
+
+    // A line that is no comment and no answer. The lines of a block go p, x, y, a, and no other line stands between them.
+    fn answer(&mut self, s: &[u8], out: &mut [u8]) -> Option<usize> {
+        let Replay {
+            state,
+            lists,
+            signals,
+        } = self;
+        let command = read_command(s, state, lists, signals)?;
+        let end = put_line(out, s);
+        match (state.awaited, command) {
+            (Awaited::Call, command) => return respond(state, command, lists, out, end),
+            (Awaited::Pitch(block), Command::Pitch(pitch)) => state.awaited = Awaited::X(Block {
+                pitch,
+                ..block
+            }),
+            (Awaited::X(block), Command::X(x)) => state.awaited = Awaited::Y(Block { x, ..block }),
+            (Awaited::Y(block), Command::Y(y)) => state.awaited = Awaited::Audio(Block {
+                y,
+                ..block
+            }),
+            (Awaited::Audio(block), Command::Audio(audio)) => {
+                return Some(self.render(Block { audio, ..block }, out, end));
+            }
+            _ => return None,
+        }
+        Some(end)
+    }
+
+    // Reads a line without its newline, and writes it and its answer: answers how many bytes of `out` to write.
+    fn line(&mut self, s: &[u8], out: &mut [u8]) -> usize {
+        match s {
+            [] => 0,
+            [b'#', ..] => put_line(out, s),
+            _ if is_answer(s) => 0,
+            _ => match self.answer(s, out) {
+                Some(end) => end,
+                None => text::put_bytes(out, 0, b"?\n"),
+            },
+        }
+    }
 }
 
+// Every line of the input.
+fn replay_lines<W: Write>(
+    output: &mut W,
+    input: &[u8],
+    replay: &mut Replay,
+    out: &mut [u8],
+) -> io::Result<()> {
+    for s in input.split_inclusive(|b| *b == b'\n') {
+        let n = replay.line(s.strip_suffix(b"\n").unwrap_or(s), out);
+        output.write_all(first(out, n))?;
+    }
+    Ok(())
+}
+
+// Fills the array from its start with what the input has, and answers the number of bytes.
 fn read_input<R: Read>(reader: &mut R, input: &mut [u8; 1048576]) -> io::Result<usize>
     ensures count { IfOk result (λ n. n ≤ 1048576) }
     ensures bytes { IfOk result (λ n. IfSome (R.remaining reader.old) (λ xs. take n input.new ≡ take 1048576 xs)) }
     ensures no_more { IfOk result (λ n. Consumes (R.remaining reader.old) (R.remaining reader.new) (take n input.new)) }
 {
-    read_full(reader, input)
+    inputs::read_full(reader, input)
 }
 
-// The same with the input's array by its type: the length of a local array of this size takes the prover too deep.
+// Replays the first n bytes. The input's array comes by its type: the length of a local array of this size takes the prover too deep.
 fn replay_input<W: Write>(
     output: &mut W,
     input: &[u8; 1048576],
     n: usize,
-    targets: &mut [f32; 177],
-    records: &mut [f32; 1025],
-    delay: &mut [f32; 65537],
-    pitch: &mut [f32; 8192],
-    x: &mut [f32; 8192],
-    y: &mut [f32; 8192],
-    audio: &mut [f32; 16384],
+    replay: &mut Replay,
     out: &mut [u8; 524288],
 ) -> io::Result<()> {
-    replay(
-        output, input, n, targets, records, delay, pitch, x, y, audio, out,
-    )
+    replay_lines(output, first(input, n), replay, out)
 }
 
 fn main(rt: HostRuntime) -> io::Result<()> {
     let mut input = [0u8; 1048576];
-    let mut targets = [0f32; 177];
-    let mut records = [0f32; 1025];
-    let mut delay = [0f32; 65537];
-    let mut pitch = [0f32; 8192];
-    let mut x = [0f32; 8192];
-    let mut y = [0f32; 8192];
-    let mut audio = [0f32; 16384];
+    let mut replay = Replay::new();
     let mut out = [0u8; 524288];
     let n = read_input(&mut rt.stdin(), &mut input)?;
-    replay_input(
-        &mut rt.stdout(),
-        &input,
-        n,
-        &mut targets,
-        &mut records,
-        &mut delay,
-        &mut pitch,
-        &mut x,
-        &mut y,
-        &mut audio,
-        &mut out,
-    )
+    replay_input(&mut rt.stdout(), &input, n, &mut replay, &mut out)
 }

@@ -2,19 +2,16 @@
 ghost use Rattle.std.specs.Prelude.{◌≡◌, []};
 ghost use Rattle.voices.specs.Calls.{call_set, call_start};
 ghost use Rattle.checks.specs.Checks.{bank_of, block_from};
-ghost use Rattle.bank.specs.Bank.{cursor_of};
 ghost use Rattle.filter.specs.Voice.{default_params};
 ghost use Rattle.setups.specs.Parked.{file_verdict};
 ghost use Rattle.parking.specs.Parking.{park_length};
 ghost use Rattle.sentivolus.specs.Calls.{version, setup_of, params_of, param_numbers, OpenLeaves, CallLeaves, BlockLeaves, AuditionLeaves};
 ghost use Rattle.sentivolus.specs.Calls.{ParkLeft, SetupLeft, RestoreLeft};
-ghost use Rattle.sentivolus.specs.Answers.{number_of, frames_or, held_number, setup_left, cursor_left};
+ghost use Rattle.sentivolus.specs.Answers.{answer_number};
 
-use bank::Answer;
-use checks::{Setup, Verdict};
+use checks::{Refusal, Setup};
 use extended::Chord;
 use filter::VoiceParams;
-use parking::Held;
 use pole_zero::Table;
 
 // The interface's version: 10,000 x major + 100 x minor + patch.
@@ -31,7 +28,7 @@ pub extern "C" fn sentivolus_defaults(out: &mut [f32; 10])
     ensures { out.new ≡ param_numbers default_params }
 {
     let p = filter::default_params();
-    let numbers = [
+    *out = [
         p.resonance,
         p.drive,
         p.saturation,
@@ -43,7 +40,6 @@ pub extern "C" fn sentivolus_defaults(out: &mut [f32; 10])
         p.morph_y,
         p.morph_z,
     ];
-    *out = numbers;
 }
 
 fn setup_of(
@@ -62,56 +58,33 @@ fn setup_of(
 ) -> Setup
     ensures { result ≡ setup_of code rate reference voices channels clean active three sections.now gain count offsets.now }
 {
-    let s = *sections;
-    let octaves = *offsets;
-    let table = Table {
-        active: active,
-        three: three,
-        sections: s,
-        gain: gain,
-    };
     Setup {
-        code: code,
-        rate: rate,
-        reference: reference,
-        voices: voices,
-        channels: channels,
-        clean: clean,
-        table: table,
+        code,
+        rate,
+        reference,
+        voices,
+        channels,
+        clean,
+        table: Table {
+            active,
+            three,
+            sections: *sections,
+            gain,
+        },
         chord: Chord {
-            count: count,
-            offsets: octaves,
+            count,
+            offsets: *offsets,
         },
     }
 }
 
-fn number_of(a: Answer) -> u32
-    ensures { result ≡ number_of a }
+// 0 of a call that was accepted, else the refusal's number.
+fn answer_number<T: Copy>(answer: Result<T, Refusal>) -> u32
+    ensures { result ≡ answer_number answer }
 {
-    match a {
-        Answer::Refused(n) => n,
-        Answer::Kept(_) => 0,
-        Answer::Rendered(_, _) => 0,
-    }
-}
-
-fn cursor_of(a: Answer, cursor: usize) -> usize
-    ensures { result ≡ cursor_of a cursor }
-{
-    match a {
-        Answer::Refused(_) => cursor,
-        Answer::Kept(next) => next,
-        Answer::Rendered(next, _) => next,
-    }
-}
-
-fn frames_or(a: Answer, before: usize) -> usize
-    ensures { result ≡ frames_or a before }
-{
-    match a {
-        Answer::Refused(_) => before,
-        Answer::Kept(_) => before,
-        Answer::Rendered(_, frames) => frames,
+    match answer {
+        Ok(_) => 0,
+        Err(refusal) => u32::from(refusal),
     }
 }
 
@@ -142,9 +115,7 @@ pub extern "C" fn sentivolus_open(
         code, rate, reference, voices, channels, clean, active, three, sections, gain, count,
         offsets,
     );
-    let opened = bank::open(s, targets, records, delay);
-    let a = opened.answer;
-    number_of(a)
+    answer_number(bank::open(s, targets, records, delay).answer)
 }
 
 // Writes one voice's targets. The cursor stays.
@@ -185,18 +156,18 @@ pub extern "C" fn sentivolus_set(
         offsets,
     );
     let p = VoiceParams {
-        resonance: resonance,
-        drive: drive,
-        saturation: saturation,
-        character: character,
-        stereo_offset: stereo_offset,
-        mix: mix,
-        level: level,
-        morph_x: morph_x,
-        morph_y: morph_y,
-        morph_z: morph_z,
+        resonance,
+        drive,
+        saturation,
+        character,
+        stereo_offset,
+        mix,
+        level,
+        morph_x,
+        morph_y,
+        morph_z,
     };
-    number_of(bank::set(s, 0, targets, voice, p))
+    answer_number(bank::set(s, 0, targets, voice, p))
 }
 
 // Copies a voice's targets to its smoothed numbers on every channel and zeroes its states, peaks and rings. The cursor stays.
@@ -228,7 +199,7 @@ pub extern "C" fn sentivolus_start(
         code, rate, reference, voices, channels, clean, active, three, sections, gain, count,
         offsets,
     );
-    number_of(bank::start(s, 0, targets, records, delay, voice))
+    answer_number(bank::start(s, 0, targets, records, delay, voice))
 }
 
 // Renders a block in place. `cursor` is the cursor, and the new one afterwards; `counts`, one number a slot, becomes how often in this block a ratio was
@@ -270,14 +241,17 @@ pub extern "C" fn sentivolus_block(
         code, rate, reference, voices, channels, clean, active, three, sections, gain, count,
         offsets,
     );
-    let from = *cursor;
-    let shown = *rendered;
-    let a = bank::block(
-        s, from, targets, records, delay, frames, pitch, steered, x, y, audio, counts,
+    let answer = bank::block(
+        s, *cursor, targets, records, delay, frames, pitch, steered, x, y, audio, counts,
     );
-    *cursor = cursor_of(a, from);
-    *rendered = frames_or(a, shown);
-    number_of(a)
+    match answer {
+        Ok(block) => {
+            *cursor = block.cursor;
+            *rendered = block.frames;
+            0
+        }
+        Err(refusal) => u32::from(refusal),
+    }
 }
 
 // Renders a block on a copy of the bank (C-16), which the scratch lists and `scratch_cursor` hold afterwards; `counts` and `rendered` as of a block. The
@@ -325,9 +299,7 @@ pub extern "C" fn sentivolus_audition(
         code, rate, reference, voices, channels, clean, active, three, sections, gain, count,
         offsets,
     );
-    let at = *scratch_cursor;
-    let shown = *rendered;
-    let a = auditions::audition(
+    let answer = auditions::audition(
         s,
         cursor,
         targets,
@@ -344,9 +316,14 @@ pub extern "C" fn sentivolus_audition(
         audio,
         counts,
     );
-    *scratch_cursor = cursor_of(a, at);
-    *rendered = frames_or(a, shown);
-    number_of(a)
+    match answer {
+        Ok(block) => {
+            *scratch_cursor = block.cursor;
+            *rendered = block.frames;
+            0
+        }
+        Err(refusal) => u32::from(refusal),
+    }
 }
 
 // The bytes that `sentivolus_park` writes, 0 for a refused setup.
@@ -404,38 +381,7 @@ pub extern "C" fn sentivolus_park(
         code, rate, reference, voices, channels, clean, active, three, sections, gain, count,
         offsets,
     );
-    number_of(parking::park(s, cursor, targets, records, delay, file))
-}
-
-fn held_number(held: Held) -> u32
-    ensures { result ≡ held_number held }
-{
-    let v = held.verdict;
-    match v {
-        Verdict::Fine => 0,
-        Verdict::Refused(n) => n,
-    }
-}
-
-// The setup that a file holds; of a refused one the one given.
-fn setup_left(held: Held, given: Setup) -> Setup
-    ensures { result ≡ setup_left held given }
-{
-    let v = held.verdict;
-    match v {
-        Verdict::Fine => held.setup,
-        Verdict::Refused(_) => given,
-    }
-}
-
-fn cursor_left(held: Held, given: usize) -> usize
-    ensures { result ≡ cursor_left held given }
-{
-    let v = held.verdict;
-    match v {
-        Verdict::Fine => held.cursor,
-        Verdict::Refused(_) => given,
-    }
+    answer_number(parking::park(s, cursor, targets, records, delay, file))
 }
 
 // A setup's numbers, each to its place.
@@ -501,31 +447,17 @@ pub extern "C" fn sentivolus_parked_setup(
         active.new three.new sections.new gain.new count.new offsets.new)
         cursor.new }
 {
-    let kept = *sections;
-    let octaves = *offsets;
-    let given = setup_of(
-        *code, *rate, *reference, *voices, *channels, *clean, *active, *three, &kept, *gain,
-        *count, &octaves,
-    );
-    let at = *cursor;
-    let held = parking::parked_setup(file);
-    put_setup(
-        setup_left(held, given),
-        code,
-        rate,
-        reference,
-        voices,
-        channels,
-        clean,
-        active,
-        three,
-        sections,
-        gain,
-        count,
-        offsets,
-    );
-    *cursor = cursor_left(held, at);
-    held_number(held)
+    match parking::parked_setup(file) {
+        Ok(held) => {
+            put_setup(
+                held.setup, code, rate, reference, voices, channels, clean, active, three,
+                sections, gain, count, offsets,
+            );
+            *cursor = held.cursor;
+            0
+        }
+        Err(refusal) => u32::from(refusal),
+    }
 }
 
 // Reads a bank from a file (C-12): the lists, the setup's numbers and the cursor become those that it holds.
@@ -557,29 +489,15 @@ pub extern "C" fn sentivolus_restore(
         active.new three.new sections.new gain.new count.new offsets.new)
         cursor.new targets.new records.new delay.new }
 {
-    let kept = *sections;
-    let octaves = *offsets;
-    let given = setup_of(
-        *code, *rate, *reference, *voices, *channels, *clean, *active, *three, &kept, *gain,
-        *count, &octaves,
-    );
-    let at = *cursor;
-    let held = parking::restore(file, targets, records, delay);
-    put_setup(
-        setup_left(held, given),
-        code,
-        rate,
-        reference,
-        voices,
-        channels,
-        clean,
-        active,
-        three,
-        sections,
-        gain,
-        count,
-        offsets,
-    );
-    *cursor = cursor_left(held, at);
-    held_number(held)
+    match parking::restore(file, targets, records, delay) {
+        Ok(held) => {
+            put_setup(
+                held.setup, code, rate, reference, voices, channels, clean, active, three,
+                sections, gain, count, offsets,
+            );
+            *cursor = held.cursor;
+            0
+        }
+        Err(refusal) => u32::from(refusal),
+    }
 }

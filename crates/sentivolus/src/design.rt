@@ -6,7 +6,7 @@ ghost use Rattle.pole_zero.specs.PoleZero.{table_of};
 ghost use Rattle.sentivolus.specs.Design.{kind_of, point_of, state_of, design_of, TableLeft, SectionLeft};
 
 use points::{Point, PointKind, State};
-use pole_zero::{Answer, PoleZeroDesign, Table};
+use pole_zero::{PoleZeroDesign, Table};
 
 fn kind_of(kind: u32, a: f32, b: f32) -> PointKind
     ensures { result ≡ kind_of kind a b }
@@ -68,8 +68,8 @@ fn design_of(kinds: &[u32; 64], numbers: &[f32; 256], three: bool, gain_db: f32)
             state_of(kinds, numbers, 6),
             state_of(kinds, numbers, 7),
         ],
-        three: three,
-        gain_db: gain_db,
+        three,
+        gain_db,
     }
 }
 
@@ -88,8 +88,8 @@ pub extern "C" fn sentivolus_point(
     let k = kind_of(kind, a, b);
     let p = Point {
         kind: k,
-        frequency: frequency,
-        q: q,
+        frequency,
+        q,
     };
     let v = p.section().values();
     *out = v;
@@ -132,11 +132,11 @@ pub extern "C" fn sentivolus_section(
         result out.new }
 {
     match design_of(kinds, numbers, three, gain_db).section(point, x, y, z) {
-        Answer::Values(s) => {
+        Some(s) => {
             let v = s.values();
             *out = v;
             0
         }
-        Answer::Refused => 11,
+        None => 11,
     }
 }

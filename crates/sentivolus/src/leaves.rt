@@ -120,7 +120,7 @@ pub extern "C" fn sentivolus_chord_read(
 {
     let octaves = *offsets;
     let chord = Chord {
-        count: count,
+        count,
         offsets: octaves,
     };
     teeth::chord_read(buf, len, cursor, slot, ratio, chord, taps)
@@ -177,16 +177,16 @@ pub extern "C" fn sentivolus_targets_of(
         (params_of resonance drive saturation character stereo_offset mix level morph_x morph_y morph_z) }
 {
     let t = filter::voice_targets(VoiceParams {
-        resonance: resonance,
-        drive: drive,
-        saturation: saturation,
-        character: character,
-        stereo_offset: stereo_offset,
-        mix: mix,
-        level: level,
-        morph_x: morph_x,
-        morph_y: morph_y,
-        morph_z: morph_z,
+        resonance,
+        drive,
+        saturation,
+        character,
+        stereo_offset,
+        mix,
+        level,
+        morph_x,
+        morph_y,
+        morph_z,
     });
     *out = t;
 }

@@ -1,7 +1,7 @@
 -- For the proofs: nothing here must be believed.
 -- C-17, C-18: setups of which the same is heard have one engine: no field of it tells ignored numbers. So a setup that came back from a parked file, which is
 -- the setup as it is heard, goes on as the parked one. Assumes nothing.
-use Rattle.std.specs.Prelude.{◌≡◌, ℕ, ◌<◌, min, cond, not, ◌&&◌, List, replicate, ◌==◌, nat_lt, refl, Float}
+use Rattle.std.specs.Prelude.{◌≡◌, ℕ, cond, not, ◌&&◌, List, replicate, ◌==◌, nat_lt, refl, Float}
 use Rattle.std.proofs.Common.{sym, ap, ◌∙◌, arith, lt-ltb}
 use Rattle.std.proofs.Math.Path.{subst}
 use Rattle.std.specs.Float.{nan}

@@ -8,6 +8,7 @@ use Rattle.lane.specs.Floats.{◌‼◌}
 use Rattle.lines.specs.Lines.{ring_len, is_length}
 use Rattle.extended.specs.Extended.{lines_mark}
 use Rattle.run.specs.Run.{constants_of, sign_of}
+use Rattle.run.specs.declared.Record.{Record}
 use Rattle.run.specs.Promises.{table_for, held_record}
 use Rattle.voices.specs.Calls.{targets_width, record_width, least_frames, most_frames, Engine, Steering, Bank, Block, BlockRun, SlotRun, frame_of, slot_of}
 use Rattle.abreast.specs.Rest.{AtRest}
@@ -159,18 +160,20 @@ pub record Rested (e : Prepared) (ps xs ys : List Float) (p : Slot) (i : Float) 
 
 -- ---- a slot's frames after frame 0
 
--- frame 0 left the record as it was, and the frames before next' have its sample and count
-pub record Rests (e : Prepared) (ps xs ys : List Float) (p : Slot) (i : Float) (params' state' : List Float) (peak' : Float) (params state : List Float)
-    (peak : Float) (before after : List Float) (count count' next' : ℕ) : Type 0 where
-  pub still : lines_mark e.m.code ≡ false
-  pub same_params : params ≡ params'
-  pub same_state : state ≡ state'
-  pub same_peak : peak ≡ peak'
+-- frame 0 worked no delay line and left the record as it was
+pub record AsBefore (code : ℕ) (was rec : Record) : Type 0 where
+  pub still : lines_mark code ≡ false
+  pub same : rec ≡ was
+
+-- it did, and the frames before next' have its sample and count
+pub record Rests (e : Prepared) (ps xs ys : List Float) (p : Slot) (i : Float) (was rec : Record) (before after : List Float)
+    (count count' next' : ℕ) : Type 0 where
+  pub as_before : AsBefore e.m.code was rec
   pub rested : Rested e ps xs ys p i before after next'
   pub counted : count' ≡ next' * count
 
 -- they have, or all is as it was
-pub record Settled (e : Prepared) (ps xs ys : List Float) (p : Slot) (i : Float) (params' state' : List Float) (peak' : Float) (params state : List Float)
-    (peak : Float) (before after : List Float) (count count' next next' : ℕ) (r : Bool) : Type 0 where
+pub record Settled (e : Prepared) (ps xs ys : List Float) (p : Slot) (i : Float) (was rec : Record) (before after : List Float)
+    (count count' next next' : ℕ) (r : Bool) : Type 0 where
   pub stays : r ≡ false → (after ≡ before) × (count' ≡ count) × (next' ≡ next)
-  pub rests : r ≡ true → Rests e ps xs ys p i params' state' peak' params state peak before after count count' next'
+  pub rests : r ≡ true → Rests e ps xs ys p i was rec before after count count' next'

@@ -11,12 +11,13 @@ ghost use Rattle.peak.specs.Running.{running_of, settled_of, Runs};
 ghost use Rattle.run.specs.Run.{smooth_of};
 ghost use Rattle.run.specs.Promises.{Glided, Keeps, Widths, record_of};
 ghost use Rattle.slots.specs.Slots.{slot_run, Worked, Placed, Buffers};
-ghost use Rattle.slots.specs.Slots.{frame_in, Signals, SameFrame, Rested, Settled};
+ghost use Rattle.slots.specs.Slots.{frame_in, Signals, SameFrame, Rested, AsBefore, Settled};
 
 use extended::Chord;
 use filter::Pitch;
+use kernels::tuning::{KeptNumbers, KeptPlan};
 use lines::Ring;
-use run::{FrameInput, Structure};
+use run::{FrameInput, Record, Structure};
 use voices::{RECORD_WIDTH, TARGETS_WIDTH};
 
 // Where a record has its slot's peak and smoothed z, and where z stands among the smoothed numbers.
@@ -47,20 +48,16 @@ pub fn copy(list: &[f32], from: usize, into: &mut [f32], to: usize, n: usize)
     requires { (from + n ≤ length list.now) × (to + n ≤ length into.old) }
     ensures { into.new ≡ paste into.old to (drop from list.now) n }
 {
-    let mut i: usize = 0;
-    while i < n {
-        into[to + i] = list[from + i];
-        i += 1;
-    }
+    into[to..to + n].copy_from_slice(&list[from..from + n]);
 }
 
-// A voice's targets.
-pub fn load_targets(list: &[f32], at: usize) -> [f32; 11]
-    requires { at + 11 ≤ length list.now }
-    ensures { result ≡ take 11 (drop at list.now) }
+// N numbers from a place of a list on: a voice's targets, a slot's states.
+pub fn load<const N: usize>(list: &[f32], at: usize) -> [f32; N]
+    requires { at + N ≤ length list.now }
+    ensures { result ≡ take N (drop at list.now) }
 {
-    let mut into = [0.0f32; 11];
-    copy(list, at, &mut into, 0, 11);
+    let mut into = [0.0; N];
+    copy(list, at, &mut into, 0, N);
     into
 }
 
@@ -69,37 +66,21 @@ pub fn load_smoothed(list: &[f32], at: usize) -> [f32; 11]
     requires { at + record_width ≤ length list.now }
     ensures { result ≡ take smoothed_width (drop at list.now) ++ list.now ‼ (at + record_z) ∷ [] }
 {
-    let mut into = load_targets(list, at);
+    let mut into: [f32; 11] = load(list, at);
     into[SMOOTHED_Z] = list[at + RECORD_Z];
     into
 }
 
-// A slot's states.
-pub fn load_states(list: &[f32], at: usize) -> [f32; 20]
-    requires { at + 20 ≤ length list.now }
-    ensures { result ≡ take 20 (drop at list.now) }
-{
-    let mut into = [0.0f32; 20];
-    copy(list, at, &mut into, 0, 20);
-    into
-}
-
 // Stores a slot's record.
-pub fn store_record(
-    records: &mut [f32],
-    slot: usize,
-    params: &[f32; 11],
-    state: &[f32; 20],
-    peak: f32,
-)
+pub fn store_record(records: &mut [f32], slot: usize, rec: &Record)
     requires { slot * record_width + record_width ≤ length records.old }
-    ensures { records.new ≡ patch record_width slot (record_of params.now state.now peak) records.old }
+    ensures { records.new ≡ patch record_width slot (record_of rec.now.params rec.now.state rec.now.peak) records.old }
 {
     let at = slot * RECORD_WIDTH;
-    copy(params, 0, records, at, 10);
-    copy(state, 0, records, at + 10, 20);
-    records[at + PEAK] = peak;
-    records[at + RECORD_Z] = params[SMOOTHED_Z];
+    copy(&rec.params, 0, records, at, 10);
+    copy(&rec.state, 0, records, at + 10, 20);
+    records[at + PEAK] = rec.peak;
+    records[at + RECORD_Z] = rec.params[SMOOTHED_Z];
 }
 
 // Zeroes a slot's ring.
@@ -108,11 +89,7 @@ fn zero_ring(delay: &mut [f32], slot: usize, len: usize)
     ensures { delay.new ≡ patch len slot (replicate len zero) delay.old }
 {
     let base = slot * len;
-    let mut i: usize = 0;
-    while i < len {
-        delay[base + i] = 0.0;
-        i += 1;
-    }
+    delay[base..base + len].fill(0.0);
 }
 
 // Starts a slot: a voice's targets to its smoothed numbers, states, peak and ring zero.
@@ -128,8 +105,12 @@ pub fn start_slot(
         records.old)
         × (delay.new ≡ patch len slot (replicate len zero) delay.old) }
 {
-    let states = [0.0f32; 20];
-    store_record(records, slot, targets, &states, 0.0);
+    let rec = Record {
+        params: *targets,
+        state: [0.0; 20],
+        peak: 0.0,
+    };
+    store_record(records, slot, &rec);
     zero_ring(delay, slot, len);
 }
 
@@ -167,9 +148,9 @@ pub fn slot_at(e: Prepared, channel: usize, voice: usize) -> Slot
 {
     let number = place_at(channel, e.voices, voice, e.channels, e.slots);
     Slot {
-        channel: channel,
-        voice: voice,
-        number: number,
+        channel,
+        voice,
+        number,
         sign: run::sign(e.channels, channel),
     }
 }
@@ -179,9 +160,10 @@ pub fn cursor_after(code: u32, cursor: usize, frames: usize) -> usize
     ensures { result ≡ (if lines_mark code then (cursor + frames) % 2 ^ 64 else cursor) }
 {
     if extended::has_lines(code) {
-        return std::num::wrapping_add_usize(cursor, frames);
+        cursor.wrapping_add(frames)
+    } else {
+        cursor
     }
-    cursor
 }
 
 // A steered frame's x or y; an unsteered one is steered by 0.
@@ -189,71 +171,63 @@ fn steering_at(steered: bool, list: &[f32], i: usize) -> f32
     requires { steered ≡ true → i < length list.now }
     ensures { result ≡ (if steered then (list.now ‼ i) else zero) }
 {
-    if steered {
-        return list[i];
-    }
-    0.0
+    if steered { list[i] } else { 0.0 }
 }
 
-// One frame of a slot, with the slot's record in hand: how often it judged a ratio greater than its cap. `tuning`, `blended`, `over`, `plan`
-// and `teeth` hold the numbers kept from frame to frame, `peak` what runs in the peak's place; `glided` says that smoothing leaves the smoothed
-// numbers as they are.
+// What a block lends to be read in each frame: the voices' pitches, and what X and Y are steered by.
+#[derive(Clone, Copy)]
+pub struct Modulation<'a> {
+    pub pitch: &'a [f32],
+    pub x: &'a [f32],
+    pub y: &'a [f32],
+}
+
+// One frame of a slot, with the slot's record in hand: how often it judged a ratio greater than its cap. `kept` and `comb` hold the numbers kept
+// from frame to frame; `glided` says that smoothing leaves the smoothed numbers as they are.
 pub fn frame(
     e: Prepared,
     sections: &[f32; 320],
-    tuning: &mut [f32; 10],
-    blended: &mut [f32; 44],
-    over: &mut u32,
-    plan: &mut [usize; 65],
-    teeth: &mut [f32; 9],
+    kept: &mut KeptNumbers,
+    comb: &mut KeptPlan,
     targets: &[f32; 11],
-    params: &mut [f32; 11],
-    state: &mut [f32; 20],
-    peak: &mut f32,
+    rec: &mut Record,
     delay: &mut [f32],
-    pitch: &[f32],
-    x: &[f32],
-    y: &[f32],
+    by: Modulation,
     audio: &mut [f32],
     p: Slot,
     f: usize,
     glided: bool,
 ) -> u32
-    requires { (Worked e) × (Placed e p) × (Buffers e pitch.now x.now y.now delay.old audio.old) × (f < e.frames)
-        × (Widths params.old state.old) × (Keeps e.m e.len sections.now tuning.old blended.old over.old plan.old teeth.old)
-        × (glided ≡ true → Glided e.m.k.alpha targets.now params.old) }
-    ensures { ((b : Float) → Runs b peak.old → Runs b peak.new
-        × ((k : ℕ) → slot_run params.new state.new b peak.new delay.new audio.new (k + result)
-        ≡ frame_in e sections.now targets.now pitch.now x.now y.now p f
-        (slot_run params.old state.old b peak.old delay.old audio.old k)))
+    requires { (Worked e) × (Placed e p) × (Buffers e by.pitch.now by.x.now by.y.now delay.old audio.old) × (f < e.frames)
+        × (Widths rec.old.params rec.old.state)
+        × (Keeps e.m e.len sections.now kept.old.tuning kept.old.blended kept.old.over comb.old.plan comb.old.teeth)
+        × (glided ≡ true → Glided e.m.k.alpha targets.now rec.old.params) }
+    ensures { ((b : Float) → Runs b rec.old.peak → Runs b rec.new.peak
+        × ((k : ℕ) → slot_run rec.new.params rec.new.state b rec.new.peak delay.new audio.new (k + result)
+        ≡ frame_in e sections.now targets.now by.entry.pitch.now by.entry.x.now by.entry.y.now p f
+        (slot_run rec.old.params rec.old.state b rec.old.peak delay.old audio.old k)))
         × (result ≤ 8)
-        × (Widths params.new state.new)
-        × (Keeps e.m e.len sections.now tuning.new blended.new over.new
-        plan.new teeth.new)
-        × (params.new ≡ smooth_of e.m.k.alpha targets.now params.old) }
+        × (Widths rec.new.params rec.new.state)
+        × (Keeps e.m e.len sections.now kept.new.tuning kept.new.blended kept.new.over
+        comb.new.plan comb.new.teeth)
+        × (rec.new.params ≡ smooth_of e.m.k.alpha targets.now rec.old.params) }
 {
-    let m = e.m;
     let at = place_at(f, e.slots, p.number, e.frames, audio.len());
-    let from = place_at(f, e.voices, p.voice, e.frames, pitch.len());
+    let from = place_at(f, e.voices, p.voice, e.frames, by.pitch.len());
     let ring = Ring {
         len: e.len,
-        cursor: cursor_after(m.code, e.cursor, f),
+        cursor: cursor_after(e.m.code, e.cursor, f),
         slot: p.number,
     };
-    let by_x = steering_at(e.steered, x, from);
-    let by_y = steering_at(e.steered, y, from);
-    let semitones = pitch[from];
-    let input = audio[at];
     let given = FrameInput {
         sign: p.sign,
-        pitch: Pitch(semitones),
-        input: input,
-        x: by_x,
-        y: by_y,
+        pitch: Pitch(by.pitch[from]),
+        input: audio[at],
+        x: steering_at(e.steered, by.x, from),
+        y: steering_at(e.steered, by.y, from),
     };
     let s = run::tick(
-        m, sections, tuning, blended, over, plan, teeth, targets, params, state, peak, delay, ring,
-        given, glided,
+        e.m, sections, kept, comb, targets, rec, delay, ring, given, glided,
     );
     audio[at] = s.out;
     s.over
@@ -264,117 +238,88 @@ pub fn is_same(list: &[f32], from: usize, other: &[f32], n: usize) -> bool
     requires { (from + n ≤ length list.now) × (n ≤ length other.now) }
     ensures { result ≡ true → take n other.now ≡ take n (drop from list.now) }
 {
-    let mut i: usize = 0;
-    while i < n {
+    for i in 0..n {
         if !kernels::tuning::same(other[i], list[from + i]) {
             return false;
         }
-        i += 1;
     }
     true
 }
 
 // Whether frame f brings a slot what frame 0 did: its pitch, its steering and the input that frame 0 had.
-fn is_same_frame(
-    e: Prepared,
-    pitch: &[f32],
-    x: &[f32],
-    y: &[f32],
-    audio: &[f32],
-    p: Slot,
-    input: f32,
-    f: usize,
-) -> bool
-    requires { (Placed e p) × (Signals e pitch.now x.now y.now audio.now) × (f < e.frames) }
-    ensures { result ≡ true → SameFrame e pitch.now x.now y.now audio.now p input f }
+fn is_same_frame(e: Prepared, by: Modulation, audio: &[f32], p: Slot, input: f32, f: usize) -> bool
+    requires { (Placed e p) × (Signals e by.pitch.now by.x.now by.y.now audio.now) × (f < e.frames) }
+    ensures { result ≡ true → SameFrame e by.entry.pitch.now by.entry.x.now by.entry.y.now audio.now p input f }
 {
     let at = place_at(f, e.slots, p.number, e.frames, audio.len());
-    let from = place_at(f, e.voices, p.voice, e.frames, pitch.len());
+    let from = place_at(f, e.voices, p.voice, e.frames, by.pitch.len());
     let first = p.voice;
-    let by_x = steering_at(e.steered, x, from);
-    let by_y = steering_at(e.steered, y, from);
-    let first_x = steering_at(e.steered, x, first);
-    let first_y = steering_at(e.steered, y, first);
-    if kernels::tuning::same(pitch[from], pitch[first]) {
-        if kernels::tuning::same(audio[at], input) {
-            if kernels::tuning::same(by_x, first_x) {
-                return kernels::tuning::same(by_y, first_y);
-            }
-        }
-    }
-    false
+    let by_x = steering_at(e.steered, by.x, from);
+    let by_y = steering_at(e.steered, by.y, from);
+    let first_x = steering_at(e.steered, by.x, first);
+    let first_y = steering_at(e.steered, by.y, first);
+    kernels::tuning::same(by.pitch[from], by.pitch[first])
+        && kernels::tuning::same(audio[at], input)
+        && kernels::tuning::same(by_x, first_x)
+        && kernels::tuning::same(by_y, first_y)
 }
 
 // Stores frame 0's sample in the frames after it that bring a slot what frame 0 did: the first that does not.
-pub fn rest(
-    e: Prepared,
-    pitch: &[f32],
-    x: &[f32],
-    y: &[f32],
-    audio: &mut [f32],
-    p: Slot,
-    input: f32,
-) -> usize
-    requires { (Worked e) × (Placed e p) × (Signals e pitch.now x.now y.now audio.old) × (0 < e.frames) }
-    ensures { Rested e pitch.now x.now y.now p input audio.old audio.new result }
+pub fn rest(e: Prepared, by: Modulation, audio: &mut [f32], p: Slot, input: f32) -> usize
+    requires { (Worked e) × (Placed e p) × (Signals e by.pitch.now by.x.now by.y.now audio.old) × (0 < e.frames) }
+    ensures { Rested e by.entry.pitch.now by.entry.x.now by.entry.y.now p input audio.old audio.new result }
 {
-    let frames = e.frames;
-    let first = p.number;
-    let sample = audio[first];
-    let mut f: usize = 1;
-    while f < frames {
-        if !is_same_frame(e, pitch, x, y, audio, p, input, f) {
+    let sample = audio[p.number];
+    for f in 1..e.frames {
+        if !is_same_frame(e, by, audio, p, input, f) {
             return f;
         }
-        let at = place_at(f, e.slots, first, frames, audio.len());
+        let at = place_at(f, e.slots, p.number, e.frames, audio.len());
         audio[at] = sample;
-        f += 1;
     }
-    f
+    e.frames
+}
+
+// A slot in a frame loop: its record in hand, how often its frames judged a ratio greater than the cap, and its next frame.
+#[derive(Clone, Copy)]
+pub struct Progress {
+    pub rec: Record,
+    pub count: u32,
+    pub next: usize,
+}
+
+// Whether a frame that worked no delay line left a slot's record as it was, bit for bit and no number NaN.
+fn is_at_rest(code: u32, was: &Record, rec: &Record) -> bool
+    requires { (Widths was.now.params was.now.state) × (Widths rec.now.params rec.now.state) }
+    ensures { result ≡ true → AsBefore code was.now rec.now }
+{
+    !extended::has_lines(code)
+        && is_same(&was.state, 0, &rec.state, 20)
+        && is_same(&was.params, 0, &rec.params, 11)
+        && kernels::tuning::same(rec.peak, was.peak)
 }
 
 // After frame 0 of a slot: where it left the record as it was, the frames that bring the same again are stored. Whether it did.
 pub fn settle(
     e: Prepared,
-    was_params: &[f32; 11],
-    was_state: &[f32; 20],
-    was_peak: f32,
-    params: &[f32; 11],
-    state: &[f32; 20],
-    peak: f32,
-    pitch: &[f32],
-    x: &[f32],
-    y: &[f32],
+    was: &Record,
+    run: &mut Progress,
+    by: Modulation,
     audio: &mut [f32],
     p: Slot,
     input: f32,
-    count: &mut u32,
-    next: &mut usize,
 ) -> bool
-    requires { (Worked e) × (Placed e p) × (Signals e pitch.now x.now y.now audio.old)
-        × (length was_params.now ≡ targets_width) × (length was_state.now ≡ states_width)
-        × (length params.now ≡ targets_width) × (length state.now ≡ states_width) × (count.old ≤ 8) }
-    ensures { Settled e pitch.now x.now y.now p input
-        was_params.now was_state.now was_peak params.now state.now peak
-        audio.old audio.new count.old count.new next.old next.new result }
+    requires { (Worked e) × (Placed e p) × (Signals e by.pitch.now by.x.now by.y.now audio.old)
+        × (Widths was.now.params was.now.state) × (Widths run.old.rec.params run.old.rec.state) × (run.old.count ≤ 8) }
+    ensures { (Settled e by.entry.pitch.now by.entry.x.now by.entry.y.now p input was.now run.old.rec
+        audio.old audio.new run.old.count run.new.count run.old.next run.new.next result) × (run.new.rec ≡ run.old.rec) }
 {
-    let m = e.m;
-    if extended::has_lines(m.code) {
+    if !is_at_rest(e.m.code, was, &run.rec) {
         return false;
     }
-    if !is_same(was_state, 0, state, 20) {
-        return false;
-    }
-    if !is_same(was_params, 0, params, 11) {
-        return false;
-    }
-    if !kernels::tuning::same(peak, was_peak) {
-        return false;
-    }
-    let f = rest(e, pitch, x, y, audio, p, input);
-    let met = *count;
-    *count = f as u32 * met;
-    *next = f;
+    let f = rest(e, by, audio, p, input);
+    run.count = f as u32 * run.count;
+    run.next = f;
     true
 }
 
@@ -382,10 +327,7 @@ pub fn settle(
 pub fn running(peak: f32) -> f32
     ensures { (result ≡ running_of peak) × (Runs peak result) × (settled_of peak result ≡ peak) }
 {
-    if peak::is_plain(peak) {
-        return peak;
-    }
-    -1.0
+    if peak::is_plain(peak) { peak } else { -1.0 }
 }
 
 // Whether the glide of a slot's smoothed numbers has ended; it is not asked of a place that has no slot of its own.

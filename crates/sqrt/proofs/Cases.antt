@@ -1,10 +1,8 @@
 -- The definition's root, by the cases that the code tests: NaN, below zero, infinity, zero, and a finite number above zero by its bit pattern. Assumes nothing.
-use Rattle.std.proofs.Common.{◌≡◌, ℕ, zero, suc, ◌+◌, ◌-◌, ◌*◌, ◌/◌, ◌%◌, ◌^◌, ◌<◌, ◌≤◌, Bool, true, false, not, ◌&&◌, eqb, ltb, sym, refl, ap, ◌∙◌, true≢false, le_trans, le_of_eq, lt_of_lt_of_le, le-add_right, not-suc-le-zero, lt_irrefl, mul-le-mul_right, zero-lt-suc, mul_assoc, add_comm, mul-lt-mul_of_pos_right, mul-pos, lt_of_not-le, zero-mul, not-le_of_lt, mul-div_cancel, arith, pow_pos, pow_mono, pow-add, ltb-false, le-ltb}
+use Rattle.std.proofs.Common.{◌≡◌, ℕ, zero, suc, ◌+◌, ◌-◌, ◌*◌, ◌/◌, ◌%◌, ◌^◌, ◌<◌, ◌≤◌, true, false, ltb, sym, refl, ap, ◌∙◌, true≢false, le_trans, le_of_eq, lt_of_lt_of_le, le-add_right, not-suc-le-zero, lt_irrefl, mul-le-mul_right, zero-lt-suc, mul_assoc, add_comm, mul-lt-mul_of_pos_right, mul-pos, lt_of_not-le, zero-mul, not-le_of_lt, mul-div_cancel, arith, pow_pos, pow_mono, pow-add, ltb-false, le-ltb}
 use mathlib.Core.Bool.{false≢true}
-use lib.Dec.{eqb_refl}
 use lib.Count.{count_leading_zeros, leading_top}
-use lib.Ieee.{Float, nan, inf, fin, binary32, up, down, div, of_bits, lt, eq, ne, level}
-use lib.Ieee.Bits.{is_true}
+use lib.Ieee.{Float, nan, inf, fin, binary32, up, down, div, of_bits, lt, is_nan}
 use lib.Ieee.Fits.{down_pos, up_pos}
 use lib.Ieee.Positive.{positive}
 use Rattle.sqrt.specs.Root.{root_of, root_units}
@@ -12,16 +10,11 @@ use Rattle.sqrt.specs.Nearest.{IsUnits}
 use Rattle.bits.specs.Patterns.{normal_value, small_value}
 
 -- ---- the tests on floats
-pub nan_stays : (x : Float) → ne x x ≡ true → x ≡ root_of x
-unfolding ne eq root_of
+pub nan_stays : (x : Float) → is_nan x ≡ true → x ≡ root_of x
+unfolding is_nan root_of
 nan_stays nan h = refl
-nan_stays (inf true) h = absurd (false≢true h)
-nan_stays (inf false) h = absurd (false≢true h)
-nan_stays (fin s m e) h = absurd (false≢true (sym (self s (m * up e * down e)) ∙ h))
-  where
-    self : (s : Bool) (a : ℕ) → not (level s a s a) ≡ false
-    self true a = ap (λ (b : Bool). not (b && true)) (is_true (eqb a a) (eqb_refl a))
-    self false a = ap (λ (b : Bool). not (b && true)) (is_true (eqb a a) (eqb_refl a))
+nan_stays (inf s) h = absurd (false≢true h)
+nan_stays (fin s m e) h = absurd (false≢true h)
 
 pub negative : (x : Float) → lt x (of_bits binary32 0) ≡ true → div binary32 (of_bits binary32 0) (of_bits binary32 0) ≡ root_of x
 unfolding lt root_of div of_bits

@@ -1,4 +1,3 @@
-pub mod Squares
 pub mod Isqrt
 pub mod Cases
 pub mod Scaled

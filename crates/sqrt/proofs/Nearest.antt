@@ -2,7 +2,7 @@
 -- An f32 is t * 2 ^ j units with t below 2 ^ 24. With x = M * 4 ^ k and r the whole number nearest √M, the neighbours of r * 2 ^ k on its own grid
 -- are (r - 1) * 2 ^ k and (r + 1) * 2 ^ k; a finer grid ends at 2 ^ 23 * 2 ^ k, below √x. The points half way to them are odd multiples of
 -- 2 ^ (k - 1), whose squares are never 4 ^ k times a whole number. Assumes nothing.
-use Rattle.std.proofs.Common.{◌≡◌, ℕ, zero, suc, ◌+◌, ◌-◌, ◌*◌, ◌/◌, ◌%◌, ◌^◌, ◌<◌, ◌≤◌, Bool, true, false, T, leb, sym, refl, ap, ◌∙◌, subst, le_trans, le_of_eq, lt_of_lt_of_le, lt_of_le_of_lt, le_of_lt, mul-le-mul_right, mul_assoc, mul-le-mul, lt_of_mul-lt-mul_right, mul-lt-mul_of_pos_right, mul-pos, lt_of_not-le, arith, pow_pos, pow_mono, pow-add, shl_lt, leb-false, leb-true}
+use Rattle.std.proofs.Common.{◌≡◌, ℕ, zero, suc, ◌+◌, ◌-◌, ◌*◌, ◌/◌, ◌%◌, ◌^◌, ◌<◌, ◌≤◌, Bool, true, false, T, leb, sym, refl, ap, ◌∙◌, subst, le_trans, le_of_eq, lt_of_lt_of_le, lt_of_le_of_lt, le_of_lt, mul-le-mul_right, mul_assoc, mul-le-mul, lt_of_mul-lt-mul_right, mul-lt-mul_of_pos_right, mul-pos, arith, pow_pos, pow_mono, pow-add, shl_lt, leb-false, leb-true}
 use native.Mathlib.Nat.{eq_of_mul-eq-mul_right, pow-succ'}
 use lib.Count.{count_leading_zeros}
 use lib.Ieee.{Float, binary32, fits, odd, of_bits, to_bits}
@@ -14,7 +14,6 @@ use Rattle.bits.specs.Patterns.{bits_under, normal_value, small_value}
 use Rattle.sqrt.specs.Root.{isqrt, root_of, root_units}
 use Rattle.sqrt.specs.Inner.{NearestWhole}
 use Rattle.sqrt.specs.Nearest.{IsUnits, Nearer, NearestRoot, RootIsNearest}
-use Rattle.sqrt.proofs.Squares.{not_most, moved}
 use Rattle.sqrt.proofs.Isqrt.{Floor, isqrt_floor, split, scaled_root}
 use Rattle.sqrt.proofs.Cases.{by_value, normal_scale, small_scale, normalize}
 
@@ -130,40 +129,35 @@ on_grid y (suc Y) f v =
     from_bits (to_bits binary32 y) (suc Y) (bits_under (to_bits binary32 y) (subst (λ (z : Float). T (positive z)) (sym e) p)) (subst (λ (z : Float). IsUnits z (suc Y)) (sym e) v)
 
 -- ---- the whole number nearest √m
+least : (m q : ℕ) → 70368744177664 ≤ m → m < (q + 1) * (q + 1) → 8388608 ≤ q
+least m q a h = grind arith
+
+most : (m q : ℕ) → m ≤ 281474959933440 → q * q ≤ m → q < 16777216
+most m q a h = grind arith
+
+next_most : (m q : ℕ) → m ≤ 281474959933440 → q * (q + 1) < m → q + 1 < 16777216
+next_most m q a h = grind arith
+
+before : (m q : ℕ) → 0 < q → q * q ≤ m → q * (q - 1) < m
+before m q p h = grind arith
+
+moved : (m q : ℕ) → q * (q + 1) < m → (q + 1) * (q + 1 - 1) < m
+moved m q h = grind arith
+
 nearest_whole : (m : ℕ) → 70368744177664 ≤ m → m ≤ 281474959933440 → (r : ℕ) × NearestWhole m r
 nearest_whole m a b = go (isqrt 24 m) (isqrt_floor 24 m (omega arith))
   where
-    least : (q : ℕ) → m < (q + 1) * (q + 1) → 8388608 ≤ q
-    least q h = lt_of_not-le {m = 8388607} (λ (w : q ≤ 8388607). clash w)
-      where
-        clash : q ≤ 8388607 → ⊥
-        clash w = let l : q + 1 ≤ 8388608 = omega arith in omega (arith, mul-le-mul l l)
-
-    most : (q : ℕ) → q * q ≤ m → q < 16777216
-    most q h = lt_of_not-le (λ (w : 16777216 ≤ q). clash w)
-      where
-        clash : 16777216 ≤ q → ⊥
-        clash w = omega (arith, mul-le-mul w w)
-
-    before : (q : ℕ) → 0 < q → q * q ≤ m → q * (q - 1) < m
-    before q p h =
-        let e : q - 1 + 1 ≡ q = omega arith in
-        subst (λ (z : ℕ). z * (q - 1) < m) e (smaller (q - 1) (subst (λ (z : ℕ). z * z ≤ m) (sym e) h))
-      where
-        smaller : (z : ℕ) → (z + 1) * (z + 1) ≤ m → (z + 1) * z < m
-        smaller z h = omega arith
-
     go : (q : ℕ) → Floor m q → (r : ℕ) × NearestWhole m r
     go q f = pick (leb m (q * (q + 1))) refl
       where
         low : 8388608 ≤ q
-        low = least q f.1
+        low = least m q a f.1
 
         pick : (s : Bool) → leb m (q * (q + 1)) ≡ s → (r : ℕ) × NearestWhole m r
-        pick true e = (q, record { above = before q (omega (arith, low)) f.0; below = leb-true m (q * (q + 1)) e; low = low; high = most q f.0 })
+        pick true e = (q, record { above = before m q (omega (arith, low)) f.0; below = leb-true m (q * (q + 1)) e; low = low; high = most m q b f.0 })
         pick false e =
             let l : q * (q + 1) < m = leb-false m (q * (q + 1)) e in
-            (q + 1, record { above = moved m q l; below = omega (arith, f.1); low = omega (arith, low); high = not_most m q b l })
+            (q + 1, record { above = moved m q l; below = omega (arith, f.1); low = omega (arith, low); high = next_most m q b l })
 
 -- ---- the theorem, at x = X units with X * 2 ^ 149 = m * 2 ^ (e + 21)
 scaled : (x : Float) (X m e : ℕ) → IsUnits x X → 0 < X → X * 2 ^ 149 ≡ m * 2 ^ (e + 21) → 8388608 ≤ m → m < 16777216 → 105 ≤ e → e ≤ 381 → NearestRoot x (root_of x)

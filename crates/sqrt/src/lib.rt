@@ -15,10 +15,8 @@ pub fn opening(j: u32) -> u32
     ensures { result ≡ opening_of j }
 {
     let square = 64 * (j as u64);
-    let mut n: u64 = 0;
-    let mut k: u32 = 8;
-    while k > 0 {
-        k -= 1;
+    let mut n = 0u64;
+    for k in (0..8u32).rev() {
         let next = 2 * n + 1;
         n = if next * next <= square >> (2 * k) {
             next
@@ -42,10 +40,10 @@ fn guess(m: u64) -> u64
     let third = (((m >> 23) as u32) as f64) * 0.0006510416666666666;
     let a = g * g;
     let c = 3.0 * g + 68719476736.0 - 2.6666666666666665 * g * a / (a + third);
-    if c != c {
+    if c.is_nan() {
         return 8388608;
     }
-    f64::to_bits(c) % 8388608 + 8388608
+    c.to_bits() % 8388608 + 8388608
 }
 
 // The whole number nearest to √m.
@@ -80,7 +78,7 @@ fn is_nearest(m: u64, n: u64) -> bool
     requires { (70368744177664 ≤ m) × (m ≤ 281474959933440) × (n < 4294967296) }
     ensures { result ≡ true → NearestWhole m n }
 {
-    std::num::wrapping_sub_u64(m + n - 1, n * n) < n + n
+    (m + n - 1).wrapping_sub(n * n) < n + n
 }
 
 // Whether r, from 1 up and below 2, has for its digits the whole number nearest to √m. Its pattern is its digits and 1056964608, the
@@ -89,13 +87,7 @@ fn is_root(m: u64, r: f32) -> bool
     requires { (70368744177664 ≤ m) × (m ≤ 281474959933440) }
     ensures { result ≡ true → HasRoot m r }
 {
-    if r != r {
-        return false;
-    }
-    is_nearest(
-        m,
-        std::num::wrapping_sub_u32(f32::to_bits(r), 1056964608) as u64,
-    )
+    !r.is_nan() && is_nearest(m, r.to_bits().wrapping_sub(1056964608) as u64)
 }
 
 // The significand of a normal number, by its pattern, with zeros behind it: an even power of two is left.
@@ -124,7 +116,7 @@ fn digits_of(b: u32) -> Digits
             e: b / 8388608 + 127,
         };
     }
-    let k = u32::leading_zeros(b) - 8;
+    let k = b.leading_zeros() - 8;
     Digits {
         m: (b as u64) << k,
         e: 128 - k,
@@ -140,7 +132,7 @@ fn finite_root(m: u64, e: u32) -> f32
     let square = m << (23 + e % 2);
     let r = quick_guess(f32::from_bits((126 + e % 2) * 8388608 + (m as u32)));
     if is_root(square, r) {
-        return f32::from_bits((e / 2 - 1) * 8388608 + (f32::to_bits(r) - 1056964608));
+        return f32::from_bits((e / 2 - 1) * 8388608 + (r.to_bits() - 1056964608));
     }
     f32::from_bits((e / 2 - 1) * 8388608 + (near_root(square) as u32))
 }
@@ -179,14 +171,12 @@ fn guessed_root(x: f32, b: u32) -> f32
 pub fn root(x: f32) -> f32
     ensures { result ≡ root_of x }
 {
-    if x != x {
+    if x.is_nan() {
         return x;
     }
-    let b = f32::to_bits(x);
-    if b >= 1065353216 {
-        if b < 1082130432 {
-            return guessed_root(x, b);
-        }
+    let b = x.to_bits();
+    if b >= 1065353216 && b < 1082130432 {
+        return guessed_root(x, b);
     }
     any_root(x, b)
 }

@@ -5,6 +5,12 @@ ghost use Rattle.std.specs.Prelude.{◌≡◌};
 ghost use Rattle.stages.specs.Stages.{ladder_states};
 ghost use Rattle.stages.specs.Promises.{stages_of};
 
+// A ladder's feedback at resonance 1.
+pub const LADDER_MAX: f32 = 4.1;
+
+// How much of a ladder's feedback raises its input.
+pub const LADDER_COMPENSATION: f32 = 0.5;
+
 // One number a stage, from the first on.
 #[derive(Clone, Copy)]
 pub struct Four(pub f32, pub f32, pub f32, pub f32);

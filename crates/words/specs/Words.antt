@@ -1,12 +1,10 @@
 -- The words of a line read by their place, a name found in a list of names, and f32 written by their bits, over text's bytes and buffers. 32 is the
 -- blank, 42 `*`. Definitions only. Assumes nothing.
-use Rattle.std.specs.Prelude.{ℕ, zero, suc, ◌+◌, Bool, true, false, cond, not, ◌&&◌, List, [], ◌∷◌, ltb, eqb, length, Float}
+use Rattle.std.specs.Prelude.{ℕ, zero, suc, ◌+◌, Bool, true, false, cond, ◌&&◌, List, [], ◌∷◌, ltb, eqb, length, Option, None, Some, is_some, Float}
+use Rattle.std.specs.Option.{unwrap_or}
+use Rattle.std.specs.Str.{bytes_eq}
 use Rattle.std.specs.Float.{binary32}
 use Rattle.std.specs.Float.Ieee.{of_bits}
-use Rattle.text.specs.declared.Number.{Number}
-use Rattle.text.specs.declared.Number.TheVariants.{Value, Refused}
-use Rattle.text.specs.declared.Pattern.{Pattern}
-use Rattle.text.specs.declared.Pattern.TheVariants.{Bits, Malformed}
 use Rattle.text.specs.Text.{count, word_at, bytes_of, decimal_of, hex_of, bits_of, Buffer, put, puts, decimal_text, hex_text}
 
 -- ---- words
@@ -31,37 +29,21 @@ word_of s at k = bytes_at s (word_start s at k)
 -- ---- numbers
 
 -- a pattern's f32; 0 where there is none
-unfoldable pub float_or0 : Pattern → Float
-float_or0 (Bits b) = of_bits binary32 b
-float_or0 Malformed = of_bits binary32 0
+unfoldable pub float_or0 : Option ℕ → Float
+float_or0 (Some b) = of_bits binary32 b
+float_or0 None = of_bits binary32 0
 
 -- a number that was read, else `or`
-unfoldable pub value_or : ℕ → Number → ℕ
-value_or or (Value v) = v
-value_or or Refused = or
-
--- whether a pattern was read
-abbrev pub is_bits : Pattern → Bool
-is_bits (Bits b) = true
-is_bits Malformed = false
-
--- whether a number was read
-abbrev pub is_value : Number → Bool
-is_value (Value v) = true
-is_value Refused = false
+abbrev pub value_or : ℕ → Option ℕ → ℕ
+value_or or n = unwrap_or n or
 
 -- whether a word is eight hexadecimal digits
 unfoldable pub is_float : List ℕ → Bool
-is_float w = is_bits (hex_of w)
+is_float w = is_some (hex_of w)
 
 -- whether a word is a decimal
 unfoldable pub is_decimal : List ℕ → Bool
-is_decimal w = is_value (decimal_of w)
-
--- either, by a mark
-abbrev pub is_number : (floats : Bool) → List ℕ → Bool
-is_number true w = is_float w
-is_number false w = is_decimal w
+is_decimal w = is_some (decimal_of w)
 
 -- whether the n words from `at` on are all of a kind
 unfoldable pub every : (List ℕ → Bool) → List ℕ → ℕ → ℕ → Bool
@@ -70,24 +52,12 @@ every kind s at (suc n) = kind (bytes_at s at) && every kind s (next_at s at) n
 
 -- ---- names
 
--- whether two lists have the same bytes
-unfoldable pub alike : List ℕ → List ℕ → Bool
-alike [] [] = true
-alike [] (y ∷ t) = false
-alike (x ∷ s) [] = false
-alike (x ∷ s) (y ∷ t) = eqb x y && alike s t
-
 -- the place of `name` among the n words of `names` from `at` on, from 0; n where it is none of them
 unfoldable pub place_from : List ℕ → List ℕ → ℕ → ℕ → ℕ
 place_from names name at zero = 0
-place_from names name at (suc n) = count (alike (bytes_at names at) name) (place_from names name (next_at names at) n)
+place_from names name at (suc n) = count (bytes_eq (bytes_at names at) name) (place_from names name (next_at names at) n)
 
 -- ---- numbers in runs
-
--- how many numbers at the head have these bits
-unfoldable pub run_of : ℕ → List Float → ℕ
-run_of b [] = 0
-run_of b (x ∷ xs) = count (not (eqb (bits_of x) b)) (run_of b xs)
 
 -- the first of two buffers where the test holds, else the second
 abbrev pub choose : Bool → Buffer → Buffer → Buffer

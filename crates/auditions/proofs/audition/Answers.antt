@@ -1,43 +1,58 @@
 -- `auditions::audition` meets its contract: by the verdict. A refusal changes nothing; accepted, the scratch lists are as long as the bank's, become
 -- their copies, and `block` renders on these.
-use mathlib.Core.Path.{◌≡◌, ◌∙◌}
+use mathlib.Core.Path.{◌∙◌}
 use native.Mathlib.Omega.{arith}
-use Rattle.voices.specs.Calls.{fine, call_audition, verdict}
-use Rattle.voices.specs.Accepted.{AuditionAccepted, audition_accepted}
+use Rattle.std.proofs.lemmas.Result.{err_from_is_err_and}
+use Rattle.voices.specs.Accepted.{audition_accepted}
 use Rattle.checks.specs.Setup.{engine}
 use Rattle.checks.specs.Checks.{bank_of, block_from}
 use Rattle.checks.specs.Accepted.{refused_by_lem, fine_by}
 use Rattle.auditions.proofs.Hearing.{copied, refused_audition, heard_in_scratch}
 use Rattle.auditions.proofs.audition.Goals as goal
-use Rattle.auditions.proofs.audition.Lts as lts
-use Rattle.auditions.proofs.audition.Reads as reads
-use Rattle.auditions.proofs.audition.Tie as tie
 
-abbrev In_default : Type 0
-In_default = lts.Past-After-enum_told tie.the-claims reads.Pre reads.Post
-
-accepted : (c : In_default) → let a = c.args in
-    verdict (engine a.setup) a.setup.voices (call_audition (block_from a.frames a.pitch.now a.steered a.x.now a.y.now a.audio.now a.counts.now) (bank_of a.scratch_targets.now a.scratch_records.now a.scratch_delay.now 0)) (bank_of a.targets.now a.records.now a.delay.now a.cursor) ≡ fine
-accepted c = fine_by c.audition_check-checked.ensures c.in_default.is
-
-known : (c : In_default) → let a = c.args in
-    AuditionAccepted (engine a.setup) a.setup.voices (block_from a.frames a.pitch.now a.steered a.x.now a.y.now a.audio.now a.counts.now) (bank_of a.scratch_targets.now a.scratch_records.now a.scratch_delay.now 0) (bank_of a.targets.now a.records.now a.delay.now a.cursor)
-known c = audition_accepted _ _ _ _ _ (accepted c)
-
-pub returns-in-Refused : goal.returns-in-Refused
-returns-in-Refused c = refused_audition _ _ _ _ _ (refused_by_lem c.audition_check-checked.ensures c.in-Refused.is)
+pub returns-in_err-audition_check : goal.returns-in_err-audition_check
+returns-in_err-audition_check c =
+    let p = err_from_is_err_and c.from_residual.result c.from_residual.ensures.1 in
+    rw (p.1, p.2) (refused_audition _ _ _ _ _ (refused_by_lem c.audition_check.ensures c.in_err-audition_check.was))
 
 -- `block` on the copies
 pub returns : goal.returns
 returns c =
-    let long = known c.before.before.before.before.before.before.before.before.before.before.before.before.before.before.before.before.before.before.before.before.before.before.before.before.before.before in
-    heard_in_scratch _ _ _ _ (accepted c.before.before.before.before.before.before.before.before.before.before.before.before.before.before.before.before.before.before.before.before.before.before.before.before.before.before) _ _ _ (c.copy.ensures ∙ copied _ _ long.targets) (c.copy-2.ensures ∙ copied _ _ long.records) (c.copy-3.ensures ∙ copied _ _ long.delay) _ _ _ _ _ c.block.ensures
+    let a = c.args in
+    let q = block_from a.frames a.pitch.now a.steered a.x.now a.y.now a.audio.now a.counts.now in
+    let lent = bank_of a.scratch_targets.now a.scratch_records.now a.scratch_delay.now 0 in
+    let b = bank_of a.targets.now a.records.now a.delay.now a.cursor in
+    let ok = fine_by c.audition_check.ensures c.in_ok-audition_check.was in
+    let long = audition_accepted (engine a.setup) a.setup.voices q lent b ok in
+    heard_in_scratch a.setup q lent b ok _ _ _
+    (c.copy.ensures ∙ copied _ _ long.targets) (c.copy-2.ensures ∙ copied _ _ long.records) (c.copy-3.ensures ∙ copied _ _ long.delay) _ _ _ _ _ c.block.ensures
 
 pub copy-requires : goal.copy-requires
-copy-requires c = (omega arith, omega (arith, (known c.before.before).targets))
+copy-requires c =
+    let a = c.args in
+    let q = block_from a.frames a.pitch.now a.steered a.x.now a.y.now a.audio.now a.counts.now in
+    let lent = bank_of a.scratch_targets.now a.scratch_records.now a.scratch_delay.now 0 in
+    let b = bank_of a.targets.now a.records.now a.delay.now a.cursor in
+    let ok = fine_by c.audition_check.ensures c.in_ok-audition_check.was in
+    let long = audition_accepted (engine a.setup) a.setup.voices q lent b ok in
+    (omega arith, omega (arith, long.targets))
 
 pub copy-requires-2 : goal.copy-requires-2
-copy-requires-2 c = (omega arith, omega (arith, (known c.before.before.before.before.before.before).records))
+copy-requires-2 c =
+    let a = c.args in
+    let q = block_from a.frames a.pitch.now a.steered a.x.now a.y.now a.audio.now a.counts.now in
+    let lent = bank_of a.scratch_targets.now a.scratch_records.now a.scratch_delay.now 0 in
+    let b = bank_of a.targets.now a.records.now a.delay.now a.cursor in
+    let ok = fine_by c.audition_check.ensures c.in_ok-audition_check.was in
+    let long = audition_accepted (engine a.setup) a.setup.voices q lent b ok in
+    (omega arith, omega (arith, long.records))
 
 pub copy-requires-3 : goal.copy-requires-3
-copy-requires-3 c = (omega arith, omega (arith, (known c.before.before.before.before.before.before.before.before.before.before).delay))
+copy-requires-3 c =
+    let a = c.args in
+    let q = block_from a.frames a.pitch.now a.steered a.x.now a.y.now a.audio.now a.counts.now in
+    let lent = bank_of a.scratch_targets.now a.scratch_records.now a.scratch_delay.now 0 in
+    let b = bank_of a.targets.now a.records.now a.delay.now a.cursor in
+    let ok = fine_by c.audition_check.ensures c.in_ok-audition_check.was in
+    let long = audition_accepted (engine a.setup) a.setup.voices q lent b ok in
+    (omega arith, omega (arith, long.delay))

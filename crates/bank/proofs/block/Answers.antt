@@ -5,38 +5,24 @@ use mathlib.Core.Bool.{Bool, cond}
 use mathlib.Core.List.{◌∷◌, []}
 use Prim.Native.Nat.{ℕ, ◌*◌}
 use native.Mathlib.Omega.{arith}
+use Rattle.std.proofs.lemmas.Result.{err_from_is_err_and}
 use Rattle.lines.specs.Lines.{is_length}
-use Rattle.voices.specs.Calls.{fine, BlockRun, call_block, verdict, rendered, cursor_after, block_of}
-use Rattle.voices.specs.Accepted.{BlockAccepted, block_accepted}
+use Rattle.voices.specs.Calls.{BlockRun, rendered, cursor_after, block_of}
+use Rattle.voices.specs.Accepted.{block_accepted}
 use Rattle.checks.specs.Setup.{solo_of, engine}
 use Rattle.checks.specs.Checks.{bank_of, block_from}
-use Rattle.setups.proofs.Accepted.{SetupAccepted, setup_accepted}
+use Rattle.setups.proofs.Accepted.{setup_accepted}
 use Rattle.checks.specs.Accepted.{refused_by_lem, fine_by}
-use Rattle.bank.specs.Bank.{answer_of, cursor_of}
+use Rattle.bank.specs.Bank.{block_answer}
 use Rattle.bank.proofs.block.Goals as goal
-use Rattle.bank.proofs.block.Lts as lts
-use Rattle.bank.proofs.block.Reads as reads
-use Rattle.bank.proofs.block.Tie as tie
-
-abbrev In_default : Type 0
-In_default = lts.Past-After-enum_told tie.the-claims reads.Pre reads.Post
-
-accepted : (c : In_default) → let a = c.args in
-    verdict (engine a.setup) a.setup.voices (call_block (block_from a.frames a.pitch.now a.steered a.x.now a.y.now a.audio.now a.counts.now)) (bank_of a.targets.now a.records.now a.delay.now 0) ≡ fine
-accepted c = fine_by c.block_check-checked.ensures c.in_default.is
-
-known : (c : In_default) → let a = c.args in
-    BlockAccepted (engine a.setup) a.setup.voices (block_from a.frames a.pitch.now a.steered a.x.now a.y.now a.audio.now a.counts.now) (bank_of a.targets.now a.records.now a.delay.now 0)
-known c = block_accepted _ _ _ _ (accepted c)
-
-numbers : (c : In_default) → SetupAccepted (solo_of c.args.setup) c.args.setup.voices
-numbers c = setup_accepted _ _ (known c).setup
 
 pub run_block-requires : goal.run_block-requires
 run_block-requires c =
     let a = c.args in
-    let k = known c.before.before.before.before.before.before.before.before.before.before.before.before in
-    let s = numbers c.before.before.before.before.before.before.before.before.before.before.before.before in
+    let q = block_from a.frames a.pitch.now a.steered a.x.now a.y.now a.audio.now a.counts.now in
+    let b = bank_of a.targets.now a.records.now a.delay.now 0 in
+    let k = block_accepted (engine a.setup) a.setup.voices q b (fine_by c.block_check.ensures c.in_ok-block_check.was) in
+    let s = setup_accepted (solo_of a.setup) a.setup.voices k.setup in
     let len = c.ring_len in
     let wide : ℕ = a.frames * a.setup.voices in (
       record {
@@ -59,23 +45,31 @@ run_block-requires c =
       },
     )
 
-pub returns-in-Refused : goal.returns-in-Refused
-unfolding answer_of cursor_of
-returns-in-Refused c = record { does = rw (refused_by_lem c.block_check-checked.ensures c.in-Refused.is); keeps = λ k e. (refl, refl) }
+pub returns-in_err-block_check : goal.returns-in_err-block_check
+unfolding block_answer
+returns-in_err-block_check c =
+    let p = err_from_is_err_and c.from_residual.result c.from_residual.ensures.1 in
+    record { does = rw (p.1, p.2, refused_by_lem c.block_check.ensures c.in_err-block_check.was); keeps = rw p.1 (refl, refl) }
 
 -- the lists and the cursor that the two calls left are the definitions'
 pub returns : goal.returns
-unfolding answer_of cursor_of cursor_after
+unfolding block_answer cursor_after
 returns c =
     let a = c.args in
     let q = block_from a.frames a.pitch.now a.steered a.x.now a.y.now a.audio.now a.counts.now in
     let b = bank_of a.targets.now a.records.now a.delay.now a.cursor in
     let w : ◌≡◌ {A = BlockRun} _ (block_of (engine a.setup) a.setup.voices q b) = c.run_block.ensures in
-    let cur : ◌≡◌ {A = ℕ} _ (cursor_after (engine a.setup) a.cursor a.frames) = c.cursor_after.ensures in
+    let cur : ◌≡◌ {A = ℕ} _ (cursor_after (engine a.setup) a.cursor a.frames) = c.cursor_after-next.ensures in
     record {
-      does = rw (accepted c.before.before.before.before.before.before.before.before.before.before.before.before.before.before.before.before.before.before.before.before.before.before) (λ i. record { bank = bank_of a.targets.now (w i).records (w i).delay (cur i); log = rendered (cur i) a.frames (w i).audio (w i).counts ∷ [] });
-      keeps = λ k e. let z : ◌≡◌ {A = ℕ} 0 1 = cc in absurd (omega arith);
+      does = rw (fine_by c.block_check.ensures c.in_ok-block_check.was)
+          (λ i. record { bank = bank_of a.targets.now (w i).records (w i).delay (cur i); log = rendered (cur i) a.frames (w i).audio (w i).counts ∷ [] });
+      keeps = tt;
     }
 
 pub overflow_mul-prepared : goal.overflow_mul-prepared
-overflow_mul-prepared c = omega (arith, (numbers c.before.before.before.before.before.before).slots)
+overflow_mul-prepared c =
+    let a = c.args in
+    let q = block_from a.frames a.pitch.now a.steered a.x.now a.y.now a.audio.now a.counts.now in
+    let b = bank_of a.targets.now a.records.now a.delay.now 0 in
+    let k = block_accepted (engine a.setup) a.setup.voices q b (fine_by c.block_check.ensures c.in_ok-block_check.was) in
+    omega (arith, (setup_accepted (solo_of a.setup) a.setup.voices k.setup).slots)

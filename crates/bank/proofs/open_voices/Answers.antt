@@ -1,8 +1,8 @@
 -- `bank::open_voices` meets its contract. The loop's invariant: after v turns the lists are those of v voices set and started, and as
 -- long as they were. Each turn is `set_voice`'s contract and then `start_voice`'s.
-use mathlib.Core.Path.{◌≡◌, refl, sym, ap, ◌∙◌}
+use mathlib.Core.Path.{◌≡◌, sym, ap, ◌∙◌}
 use mathlib.Core.List.{List}
-use Prim.Native.Nat.{ℕ, ◌-◌, zero-le}
+use Prim.Native.Nat.{ℕ}
 use native.Mathlib.Omega.{arith}
 use native.Mathlib.Numerals.{add-one}
 use lib.Ieee.{Float}
@@ -13,7 +13,6 @@ use Rattle.voices.specs.Calls.{targets_width, set_of, start_of, open_of}
 use Rattle.checks.specs.declared.Setup.{Setup}
 use Rattle.checks.specs.Setup.{engine}
 use Rattle.checks.specs.Checks.{bank_of}
-use Rattle.setups.proofs.Accepted.{setup_accepted}
 use Rattle.bank.proofs.open_voices.Invariants.{turn}
 use Rattle.bank.proofs.open_voices.Goals as goal
 
@@ -23,25 +22,18 @@ set_is : (s : Setup) (v : ℕ) (tg rs ds tg' : List Float) (p : VoiceParams) →
 unfolding set_of
 set_is s v tg rs ds tg' p e h = ap (λ (x : List Float). bank_of x rs ds 0) (e ∙ ap (λ (q : VoiceParams). patch targets_width v (voice_targets q) tg) h)
 
-pub start_voice-requires : goal.start_voice-requires
-start_voice-requires c =
-    let l = c.loop-v in
-    let g = c.requires.lengths in
-    (record { setup = c.requires.setup; lengths = record { targets = omega (arith, l.invariant.2, g.targets); records = l.invariant.3 ∙ g.records; delay = l.invariant.4 ∙ g.delay } }, c.loop-v-test.true)
-
 pub loop-v-preserved : goal.loop-v-preserved
 loop-v-preserved c =
     let a = c.args in
     let l = c.loop-v in
     let n : ℕ = a.setup.voices in (
-      omega arith,
       c.start_voice.ensures 0
           ∙ ap (start_of (engine a.setup) n l.v) (set_is a.setup l.v l.targets l.records l.delay _ _ c.set_voice.ensures c.default_params.ensures)
-          ∙ ap (turn a.setup l.v) l.invariant.1
+          ∙ ap (turn a.setup l.v) l.invariant.0
           ∙ ap (λ (k : ℕ). upto (turn a.setup) k (bank_of a.targets.now a.records.now a.delay.now 0)) (sym (add-one l.v)),
+      omega (arith, l.invariant.1),
       omega (arith, l.invariant.2),
       omega (arith, l.invariant.3),
-      omega (arith, l.invariant.4),
     )
 
 pub returns : goal.returns
@@ -50,13 +42,4 @@ returns c =
     let a = c.args in
     let l = c.loop-v in
     let e : l.v ≡ a.setup.voices = omega arith in
-    l.invariant.1 ∙ ap (λ (k : ℕ). upto (turn a.setup) k (bank_of a.targets.now a.records.now a.delay.now 0)) e
-
-pub loop-v-init : goal.loop-v-init
-loop-v-init c = (zero-le, refl, refl, refl, refl)
-
-pub set_voice-requires : goal.set_voice-requires
-set_voice-requires c = (c.loop-v-test.true, c.loop-v.invariant.2 ∙ c.requires.lengths.targets)
-
-pub overflow_add-v : goal.overflow_add-v
-overflow_add-v c = omega (arith, c.loop-v-test.true, (setup_accepted _ _ c.requires.setup).voices)
+    l.invariant.0 ∙ ap (λ (k : ℕ). upto (turn a.setup) k (bank_of a.targets.now a.records.now a.delay.now 0)) e

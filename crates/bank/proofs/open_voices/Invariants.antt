@@ -1,7 +1,7 @@
 -- `bank::open_voices` meets its contract. The loop's invariant: after v turns the lists are those of v voices set and started, and as
 -- long as they were. Each turn is `set_voice`'s contract and then `start_voice`'s.
 use mathlib.Core.Path.{◌≡◌}
-use Prim.Native.Nat.{ℕ, ◌≤◌, ◌-◌}
+use Prim.Native.Nat.{ℕ}
 use lib.ListN.{length}
 use Rattle.filter.specs.Voice.{default_params}
 use Rattle.parts.specs.Parts.{upto}
@@ -16,11 +16,7 @@ turn s v x = start_of (engine s) s.voices v (set_of (engine s) s.voices v defaul
 
 abbrev pub invariant-loop-v : goal.invariant-loop-v
 invariant-loop-v l =
-    (l.v ≤ l.setup.voices)
-    × (bank_of l.targets l.records l.delay 0 ≡ upto (turn l.setup) l.v (bank_of l.initial.targets l.initial.records l.initial.delay 0))
+    (bank_of l.targets l.records l.delay 0 ≡ upto (turn l.setup) l.v (bank_of l.initial.targets l.initial.records l.initial.delay 0))
     × (length l.targets ≡ length l.initial.targets)
     × (length l.records ≡ length l.initial.records)
     × (length l.delay ≡ length l.initial.delay)
-
-abbrev pub decreases-loop-v : goal.decreases-loop-v
-decreases-loop-v l = l.setup.voices - l.v

@@ -1,7 +1,6 @@
 -- `bank::set_voice` meets its contract: ten stores from the voice's place on are its patch.
 use mathlib.Core.Path.{◌≡◌, ap, ◌∙◌}
 use Prim.Native.Nat.{ℕ}
-use native.Mathlib.Omega.{arith}
 use lib.ListN.{length}
 use lib.Seq.{paste}
 use Rattle.parts.specs.Laws.{patch_paste}
@@ -17,9 +16,3 @@ returns c =
     ∙ ap (λ (k : ℕ). paste a.targets.now k g.result 11) c.start_of-at.ensures.0
     ∙ patch_paste 11 a.voice g.result a.targets.now l
     ∙ rw g.ensures
-
-pub start_of-at-requires : goal.start_of-at-requires
-start_of-at-requires c = c.requires
-
-pub copy-requires : goal.copy-requires
-copy-requires c = (omega arith, omega arith)

@@ -1,20 +1,18 @@
 -- `bank::start_voice` meets its contract. The loop's invariant: after c turns the lists are those of c channels started, and as long as
 -- they were. Each turn is `start_slot`'s contract.
-use mathlib.Core.Path.{◌≡◌, refl, sym, ap, ◌∙◌}
+use mathlib.Core.Path.{◌≡◌, sym, ap, ◌∙◌}
 use mathlib.Core.List.{List}
-use Prim.Native.Nat.{ℕ, ◌+◌, ◌*◌, ◌-◌, zero-le}
+use Prim.Native.Nat.{ℕ, ◌+◌, ◌*◌}
 use native.Mathlib.Omega.{arith}
 use native.Mathlib.Numerals.{add-one}
 use lib.Ieee.{Float}
-use lib.ListN.{length, replicate}
+use lib.ListN.{replicate}
 use Rattle.parts.specs.Parts.{upto, piece, patch}
-use Rattle.parts.specs.Laws.{piece_fits}
 use Rattle.voices.specs.Calls.{targets_width, record_width, Engine, start_record, start_slot, start_of}
 use Rattle.lane.specs.Floats.{zero}
 use Rattle.slots.specs.Frame.{targets_piece}
 use Rattle.checks.specs.Setup.{engine}
 use Rattle.checks.specs.Checks.{bank_of}
-use Rattle.setups.proofs.Accepted.{setup_accepted}
 use Rattle.bank.proofs.start_voice.Goals as goal
 
 start_is : (E : Engine) (n v c cur : ℕ) (tg rs ds rs' ds' goals : List Float) (s len : ℕ)
@@ -26,31 +24,18 @@ unfolding start_slot
 start_is E n v c cur tg rs ds rs' ds' goals s len hs hl hg hr hd =
     λ i. bank_of tg ((hr ∙ (λ j. patch record_width (hs j) (start_record E (hg j)) rs)) i) ((hd ∙ (λ j. patch (hl j) (hs j) (replicate (hl j) zero) ds)) i) cur
 
-pub start_slot-requires : goal.start_slot-requires
-start_slot-requires c =
-    let a = c.args.setup in
-    let l = c.loop-c in
-    let p = c.place_at-slot in
-    let len = c.ring_len-len in
-    let n : ℕ = a.channels * a.voices in
-    let d : length l.delay ≡ n * len.result = l.invariant.3 ∙ c.requires.0.lengths.delay ∙ ap (λ (k : ℕ). n * k) (sym len.ensures) in (
-      omega (arith, l.invariant.2, c.requires.0.lengths.records, piece_fits record_width p.result n p.ensures.1),
-      omega (arith, d, piece_fits len.result p.result n p.ensures.1),
-    )
-
 pub loop-c-preserved : goal.loop-c-preserved
 loop-c-preserved c =
     let a = c.args in
     let l = c.loop-c in
     let t = c.start_slot in
     let from = c.start_of-from in (
-      omega arith,
-      λ cur. start_is (engine a.setup) a.setup.voices a.voice l.c cur a.targets.now l.records l.delay _ _ c.load_targets-goals.result c.place_at-slot.result c.ring_len-len.result
-          c.place_at-slot.ensures.0 c.ring_len-len.ensures (targets_piece a.voice from.result a.targets.now _ from.ensures.0 c.load_targets-goals.ensures) t.ensures.0 t.ensures.1
-          ∙ ap (start_slot (engine a.setup) a.setup.voices a.voice l.c) (l.invariant.1 cur)
+      λ cur. start_is (engine a.setup) a.setup.voices a.voice l.c cur a.targets.now l.records l.delay _ _ c.load-goals.result c.place_at-slot.result c.ring_len-len.result
+          c.place_at-slot.ensures.0 c.ring_len-len.ensures (targets_piece a.voice from.result a.targets.now _ from.ensures.0 c.load-goals.ensures) t.ensures.0 t.ensures.1
+          ∙ ap (start_slot (engine a.setup) a.setup.voices a.voice l.c) (l.invariant.0 cur)
           ∙ ap (λ (k : ℕ). upto (start_slot (engine a.setup) a.setup.voices a.voice) k (bank_of a.targets.now a.records.now a.delay.now cur)) (sym (add-one l.c)),
+      omega (arith, l.invariant.1),
       omega (arith, l.invariant.2),
-      omega (arith, l.invariant.3),
     )
 
 pub returns : goal.returns
@@ -59,22 +44,4 @@ returns c cur =
     let a = c.args in
     let l = c.loop-c in
     let e : l.c ≡ a.setup.channels = omega arith in
-    l.invariant.1 cur ∙ ap (λ (k : ℕ). upto (start_slot (engine a.setup) a.setup.voices a.voice) k (bank_of a.targets.now a.records.now a.delay.now cur)) e
-
-pub overflow_mul-slots : goal.overflow_mul-slots
-overflow_mul-slots c = omega (arith, (setup_accepted _ _ c.requires.0.setup).slots)
-
-pub start_of-from-requires : goal.start_of-from-requires
-start_of-from-requires c = (c.requires.1, c.requires.0.lengths.targets)
-
-pub load_targets-goals-requires : goal.load_targets-goals-requires
-load_targets-goals-requires c = c.start_of-from.ensures.1
-
-pub loop-c-init : goal.loop-c-init
-loop-c-init c = (zero-le, λ cur. refl, refl, refl)
-
-pub place_at-slot-requires : goal.place_at-slot-requires
-place_at-slot-requires c = (c.loop-c-test.true, c.requires.1, refl)
-
-pub overflow_add-c : goal.overflow_add-c
-overflow_add-c c = omega (arith, c.loop-c-test.true, (setup_accepted _ _ c.requires.0.setup).channels)
+    l.invariant.0 cur ∙ ap (λ (k : ℕ). upto (start_slot (engine a.setup) a.setup.voices a.voice) k (bank_of a.targets.now a.records.now a.delay.now cur)) e

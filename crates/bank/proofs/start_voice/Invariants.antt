@@ -1,7 +1,7 @@
 -- `bank::start_voice` meets its contract. The loop's invariant: after c turns the lists are those of c channels started, and as long as
 -- they were. Each turn is `start_slot`'s contract.
 use mathlib.Core.Path.{◌≡◌}
-use Prim.Native.Nat.{ℕ, ◌≤◌, ◌-◌}
+use Prim.Native.Nat.{ℕ}
 use lib.ListN.{length}
 use Rattle.parts.specs.Parts.{upto}
 use Rattle.voices.specs.Calls.{start_slot}
@@ -11,10 +11,6 @@ use Rattle.bank.proofs.start_voice.Given as goal
 
 abbrev pub invariant-loop-c : goal.invariant-loop-c
 invariant-loop-c l =
-    (l.c ≤ l.setup.channels)
-    × ((cur : ℕ) → bank_of l.targets l.records l.delay cur ≡ upto (start_slot (engine l.setup) l.setup.voices l.voice) l.c (bank_of l.targets l.initial.records l.initial.delay cur))
+    ((cur : ℕ) → bank_of l.targets l.records l.delay cur ≡ upto (start_slot (engine l.setup) l.setup.voices l.voice) l.c (bank_of l.targets l.initial.records l.initial.delay cur))
     × (length l.records ≡ length l.initial.records)
     × (length l.delay ≡ length l.initial.delay)
-
-abbrev pub decreases-loop-c : goal.decreases-loop-c
-decreases-loop-c l = l.setup.channels - l.c

@@ -1,5 +1,6 @@
 -- `checks::audition_check` meets its contract: the checks of block, and then the scratch lists'.
 use mathlib.Core.Path.{sym, ◌∙◌}
+use Rattle.std.proofs.lemmas.Result.{err_from_is_err_and}
 use Rattle.voices.specs.Calls.{check}
 use Rattle.voices.specs.Accepted.{then_fine}
 use Rattle.checks.specs.Checks.{check_of}
@@ -7,18 +8,24 @@ use Rattle.checks.specs.Accepted.{refused_by_lem, fine_by}
 use Rattle.checks.proofs.Laws.{passes, fails, after_refused, after_fine}
 use Rattle.checks.proofs.audition_check.Goals as goal
 
-pub returns-in-Refused : goal.returns-in-Refused
+pub returns-in_err-block_check : goal.returns-in_err-block_check
 unfolding check_of check
-returns-in-Refused c = sym (after_refused _ _ (refused_by_lem c.block_check-first.ensures c.in-Refused.is))
+returns-in_err-block_check c =
+    let p = err_from_is_err_and c.from_residual.result c.from_residual.ensures.1 in
+    rw (p.1, p.2) (sym (after_refused _ _ (refused_by_lem c.block_check.ensures c.in_err-block_check.was)))
 
 pub are_long-requires : goal.are_long-requires
 unfolding check_of check
-are_long-requires c = (then_fine _ _ (fine_by c.block_check-first.ensures c.in_default.is)).0
+are_long-requires c = (then_fine _ _ (fine_by c.block_check.ensures c.in_ok-block_check.was)).0
 
 pub returns-then-not-are_long : goal.returns-then-not-are_long
 unfolding check_of check
-returns-then-not-are_long c = sym (after_fine _ _ (fine_by c.block_check-first.ensures c.in_default.is) ∙ rw (fails c.if-not-are_long.true c.are_long.ensures))
+returns-then-not-are_long c =
+    let o = fine_by c.block_check.ensures c.in_ok-block_check.was in
+    sym (after_fine _ _ o ∙ rw (fails c.if-not-are_long.true c.are_long.ensures))
 
 pub returns : goal.returns
 unfolding check_of check
-returns c = sym (after_fine _ _ (fine_by c.block_check-first.ensures c.in_default.is) ∙ rw (passes c.if-not-are_long.false c.are_long.ensures))
+returns c =
+    let o = fine_by c.block_check.ensures c.in_ok-block_check.was in
+    sym (after_fine _ _ o ∙ rw (passes c.if-not-are_long.false c.are_long.ensures))

@@ -1,63 +1,65 @@
 -- `checks::codes_check` meets its contract: at each return the tests before it passed, and this one did not.
-use mathlib.Core.Path.{◌≡◌, sym, ◌∙◌}
+use mathlib.Core.Path.{◌≡◌, sym}
 use mathlib.Core.Bool.{true, false}
-use Rattle.lines.specs.Lines.{rate_refused}
+use lib.Ieee.{of_bits, round}
 use Rattle.setups.specs.Setup.{reference_refused, within, codes_check_of}
 use Rattle.voices.specs.Calls.{check, ◌then◌}
 use Rattle.checks.specs.Checks.{check_of}
-use Rattle.checks.proofs.Laws.{passes, fails}
+use Rattle.checks.proofs.Laws.{inside}
 use Rattle.checks.proofs.codes_check.Goals as goal
-use Rattle.checks.proofs.codes_check.Lts as lts
-use Rattle.checks.proofs.codes_check.Reads as reads
-use Rattle.checks.proofs.codes_check.Tie as tie
-
-abbrev Else-not-is_within-2 : Type 0
-Else-not-is_within-2 = lts.Else4 tie.the-claims reads.Pre reads.Post
-
-rate : (c : goal.Else-rate_refused) → rate_refused c.args.setup.rate ≡ false
-rate c = sym c.rate_refused.ensures ∙ c.if-rate_refused.false
-
-tuning : (c : goal.Else-reference_refused) → reference_refused c.args.setup.reference ≡ false
-tuning c = sym c.reference_refused.ensures ∙ c.if-reference_refused.false
-
-polyphony : (c : goal.Else-not-is_within) → within 1 16 c.args.setup.voices ≡ true
-polyphony c = passes c.if-not-is_within.false c.is_within.ensures
-
-layout : (c : Else-not-is_within-2) → within 1 2 c.args.setup.channels ≡ true
-layout c = passes c.if-not-is_within-2.false c.is_within-2.ensures
 
 pub returns-then-rate_refused : goal.returns-then-rate_refused
 unfolding check_of codes_check_of check ◌then◌
-returns-then-rate_refused c = rw (sym c.rate_refused.ensures ∙ c.if-rate_refused.true)
+returns-then-rate_refused c = rw (sym c.if-rate_refused.ensures)
 
-pub reference_refused-requires : goal.reference_refused-requires
-unfolding check_of codes_check_of check ◌then◌
-reference_refused-requires c = tt
+pub returns-then-is_outside : goal.returns-then-is_outside
+unfolding check_of codes_check_of check ◌then◌ reference_refused of_bits round
+returns-then-is_outside c =
+    let tuning : reference_refused c.args.setup.reference ≡ true = sym c.if-is_outside.ensures in
+    rw (sym c.if-rate_refused.ensures, tuning)
 
-pub returns-then-reference_refused : goal.returns-then-reference_refused
-unfolding check_of codes_check_of check ◌then◌
-returns-then-reference_refused c = rw (rate c.before.before, sym c.reference_refused.ensures ∙ c.if-reference_refused.true)
+pub returns-then-not-contains : goal.returns-then-not-contains
+unfolding check_of codes_check_of check ◌then◌ reference_refused of_bits round
+returns-then-not-contains c =
+    let a = c.args.setup in
+    let n1 = c.new.ensures in
+    let tuning : reference_refused a.reference ≡ false = sym c.if-is_outside.ensures in
+    let polyphony : within 1 16 a.voices ≡ false = inside _ n1.start n1.end n1.exhausted c.if-not-contains.ensures.value in
+    rw (sym c.if-rate_refused.ensures, tuning, polyphony)
 
-pub is_within-requires : goal.is_within-requires
-unfolding check_of codes_check_of check ◌then◌
-is_within-requires c = tt
+pub returns-then-not-contains-2 : goal.returns-then-not-contains-2
+unfolding check_of codes_check_of check ◌then◌ reference_refused of_bits round
+returns-then-not-contains-2 c =
+    let a = c.args.setup in
+    let n1 = c.new.ensures in
+    let n2 = c.new-2.ensures in
+    let tuning : reference_refused a.reference ≡ false = sym c.if-is_outside.ensures in
+    let polyphony : within 1 16 a.voices ≡ true = inside _ n1.start n1.end n1.exhausted c.if-not-contains.ensures.value in
+    let layout : within 1 2 a.channels ≡ false = inside _ n2.start n2.end n2.exhausted c.if-not-contains-2.ensures.value in
+    rw (sym c.if-rate_refused.ensures, tuning, polyphony, layout)
 
-pub returns-then-not-is_within : goal.returns-then-not-is_within
-unfolding check_of codes_check_of check ◌then◌
-returns-then-not-is_within c = rw (rate c.before.before.before.before, tuning c.before.before, fails c.if-not-is_within.true c.is_within.ensures)
-
-pub is_within-requires-2 : goal.is_within-requires-2
-unfolding check_of codes_check_of check ◌then◌
-is_within-requires-2 c = tt
-
-pub returns-then-not-is_within-2 : goal.returns-then-not-is_within-2
-unfolding check_of codes_check_of check ◌then◌
-returns-then-not-is_within-2 c = rw (rate c.before.before.before.before.before.before, tuning c.before.before.before.before, polyphony c.before.before, fails c.if-not-is_within-2.true c.is_within-2.ensures)
-
-pub returns-then-not-is_within-3 : goal.returns-then-not-is_within-3
-unfolding check_of codes_check_of check ◌then◌
-returns-then-not-is_within-3 c = rw (rate c.before.before.before.before.before.before.before.before.before, tuning c.before.before.before.before.before.before.before, polyphony c.before.before.before.before.before, layout c.before.before.before, fails c.if-not-is_within-3.true c.is_within-3.ensures)
+pub returns-then-not-contains-3 : goal.returns-then-not-contains-3
+unfolding check_of codes_check_of check ◌then◌ reference_refused of_bits round
+returns-then-not-contains-3 c =
+    let a = c.args.setup in
+    let n1 = c.new.ensures in
+    let n2 = c.new-2.ensures in
+    let n3 = c.new-3.ensures in
+    let tuning : reference_refused a.reference ≡ false = sym c.if-is_outside.ensures in
+    let polyphony : within 1 16 a.voices ≡ true = inside _ n1.start n1.end n1.exhausted c.if-not-contains.ensures.value in
+    let layout : within 1 2 a.channels ≡ true = inside _ n2.start n2.end n2.exhausted c.if-not-contains-2.ensures.value in
+    let structure : within 1 c.args.codes a.code ≡ false = inside _ n3.start n3.end n3.exhausted c.if-not-contains-3.ensures.value in
+    rw (sym c.if-rate_refused.ensures, tuning, polyphony, layout, structure)
 
 pub returns : goal.returns
-unfolding check_of codes_check_of check ◌then◌
-returns c = rw (rate c.before.before.before.before.before.before.before.before.before, tuning c.before.before.before.before.before.before.before, polyphony c.before.before.before.before.before, layout c.before.before.before, passes c.if-not-is_within-3.false c.is_within-3.ensures)
+unfolding check_of codes_check_of check ◌then◌ reference_refused of_bits round
+returns c =
+    let a = c.args.setup in
+    let n1 = c.new.ensures in
+    let n2 = c.new-2.ensures in
+    let n3 = c.new-3.ensures in
+    let tuning : reference_refused a.reference ≡ false = sym c.if-is_outside.ensures in
+    let polyphony : within 1 16 a.voices ≡ true = inside _ n1.start n1.end n1.exhausted c.if-not-contains.ensures.value in
+    let layout : within 1 2 a.channels ≡ true = inside _ n2.start n2.end n2.exhausted c.if-not-contains-2.ensures.value in
+    let structure : within 1 c.args.codes a.code ≡ true = inside _ n3.start n3.end n3.exhausted c.if-not-contains-3.ensures.value in
+    rw (sym c.if-rate_refused.ensures, tuning, polyphony, layout, structure)

@@ -1,52 +1,48 @@
--- `checks::is_clear` meets its contract. The loop's invariant: the mark is that of the first i rows.
-use Prim.Native.Nat.{ℕ, ◌*◌, ◌+◌, ◌-◌, zero-le}
+-- `checks::is_clear` meets its contract. The loop's invariant: the first i rows are clear.
+use Prim.Native.Nat.{ℕ, ◌*◌, ◌+◌}
 use native.Mathlib.Omega.{arith}
 use native.Mathlib.Numerals.{add-one}
 use mathlib.Core.Path.{◌≡◌, refl, sym, ap, ◌∙◌}
-use mathlib.Core.Bool.{Bool, ◌&&◌}
+use mathlib.Core.Bool.{Bool, true, false, true≢false}
 use lib.Dec.{eqb}
+use borrow.Author.Tests.{eq-eqb, ne_eqb}
 use Rattle.lane.specs.Floats.{◌‼◌}
 use Rattle.text.specs.Text.{bits_of}
 use Rattle.places.specs.Places.{every}
+use Rattle.places.specs.Once.{every_at, never}
 use Rattle.voices.specs.Calls.{is_clear}
 use Rattle.checks.proofs.is_clear.Goals as goal
 
-pub loop-i-preserved : goal.loop-i-preserved
+-- one row more
+row : (p : ℕ → Bool) (i : ℕ) → every p i ≡ true → p i ≡ true → every p (i + 1) ≡ true
 unfolding every
-loop-i-preserved c =
-    let place = c.place_at-at in
-    let l = c.loop-i in
+row p i e h = ap (every p) (add-one i) ∙ rw (e, h)
+
+pub loop-i-init : goal.loop-i-init
+unfolding every
+loop-i-init c = refl
+
+pub place_at-at-requires : goal.place_at-at-requires
+place_at-at-requires c = (c.loop-i-test.true, c.requires.0, c.requires.1)
+
+pub returns-then-bits_of-ne0 : goal.returns-then-bits_of-ne0
+unfolding is_clear
+returns-then-bits_of-ne0 c =
     let a = c.args in
-    let clear : ℕ → Bool = λ k. eqb (bits_of (a.list.now ‼ (k * a.width + a.place))) 0 in (
-      omega arith,
-      (λ t. l.invariant.1 t && eqb ((c.bits_of.ensures ∙ ap (λ (k : ℕ). bits_of (a.list.now ‼ k)) place.ensures.0) t) 0)
-          ∙ ap (every clear) (sym (add-one l.i)),
-    )
+    let clear : ℕ → Bool = λ k. eqb (bits_of (a.list.now ‼ (k * a.width + a.place))) 0 in
+    let set : clear c.loop-i.i ≡ false = rw (← c.place_at-at.ensures.0, ← c.bits_of.ensures) (ne_eqb _ _ c.if-bits_of-ne0.true) in
+    sym (never (every clear a.rows) (λ e. true≢false (sym (every_at clear a.rows c.loop-i.i e c.loop-i-test.true) ∙ set)))
+
+pub loop-i-preserved : goal.loop-i-preserved
+loop-i-preserved c =
+    let a = c.args in
+    let clear : ℕ → Bool = λ k. eqb (bits_of (a.list.now ‼ (k * a.width + a.place))) 0 in
+    let here : clear c.loop-i.i ≡ true = rw (← c.place_at-at.ensures.0, ← c.bits_of.ensures) (eq-eqb _ _ c.if-bits_of-ne0.false) in
+    row clear c.loop-i.i c.loop-i.invariant here
 
 pub returns : goal.returns
 unfolding is_clear
 returns c =
-    let l = c.loop-i in
     let a = c.args in
-    let e : l.i ≡ a.rows = omega arith in
-    l.invariant.1 ∙ ap (every (λ k. eqb (bits_of (a.list.now ‼ (k * a.width + a.place))) 0)) e
-
-pub loop-i-init : goal.loop-i-init
-unfolding every
-loop-i-init c = (zero-le, refl)
-
-pub place_at-at-requires : goal.place_at-at-requires
-unfolding every
-place_at-at-requires c = (c.loop-i-test.true, c.requires.0, c.requires.1)
-
-pub offset_bounds-list-at : goal.offset_bounds-list-at
-unfolding every
-offset_bounds-list-at c = omega (arith, c.place_at-at.ensures.1, c.well_formed.0)
-
-pub bounds-list-at : goal.bounds-list-at
-unfolding every
-bounds-list-at c = omega (arith, c.place_at-at.ensures.1)
-
-pub loop-i-smaller : goal.loop-i-smaller
-unfolding every
-loop-i-smaller c = omega arith
+    let e : c.loop-i.i ≡ a.rows = omega arith in
+    sym (ap (every (λ k. eqb (bits_of (a.list.now ‼ (k * a.width + a.place))) 0)) (sym e) ∙ c.loop-i.invariant)

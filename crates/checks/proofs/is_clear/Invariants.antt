@@ -1,6 +1,7 @@
--- `checks::is_clear` meets its contract. The loop's invariant: the mark is that of the first i rows.
-use Prim.Native.Nat.{◌≤◌, ◌*◌, ◌+◌, ◌-◌}
+-- `checks::is_clear` meets its contract. The loop's invariant: the first i rows are clear.
+use Prim.Native.Nat.{◌*◌, ◌+◌}
 use mathlib.Core.Path.{◌≡◌}
+use mathlib.Core.Bool.{true}
 use lib.Dec.{eqb}
 use Rattle.lane.specs.Floats.{◌‼◌}
 use Rattle.text.specs.Text.{bits_of}
@@ -8,7 +9,4 @@ use Rattle.places.specs.Places.{every}
 use Rattle.checks.proofs.is_clear.Given as goal
 
 abbrev pub invariant-loop-i : goal.invariant-loop-i
-invariant-loop-i l = (l.i ≤ l.rows) × (l.clear ≡ every (λ k. eqb (bits_of (l.list ‼ (k * l.width + l.place))) 0) l.i)
-
-abbrev pub decreases-loop-i : goal.decreases-loop-i
-decreases-loop-i l = l.rows - l.i
+invariant-loop-i l = every (λ k. eqb (bits_of (l.list ‼ (k * l.width + l.place))) 0) l.i ≡ true

@@ -9,12 +9,6 @@ use Rattle.lines.proofs.Laws.{read_good}
 use Rattle.combs.specs.Ends.{two_taps}
 use Rattle.combs.proofs.comb_step.Goals as goal
 
-pub comb_end-requires : goal.comb_end-requires
-comb_end-requires c =
-    let a = c.args in
-    subst (λ (xs : List Float). is_view a.at.len a.at.slot (length xs) ≡ true)
-    (sym (c.read_through-second.ensures.1 ∙ c.read_through-first.ensures.1)) c.requires
-
 pub returns : goal.returns
 unfolding of_bits round
 returns c =

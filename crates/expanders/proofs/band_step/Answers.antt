@@ -4,4 +4,4 @@ use Rattle.expanders.proofs.band_step.Goals as goal
 
 pub returns : goal.returns
 unfolding band_step
-returns c = rw (c.band_mix.ensures, c.store_ladder.ensures, c.stages.ensures, c.expander_taps-taps.ensures)
+returns c = rw (c.band_mix.ensures, c.tapped.ensures.taps, c.tapped.ensures.states)

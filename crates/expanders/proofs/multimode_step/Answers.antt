@@ -4,4 +4,4 @@ use Rattle.expanders.proofs.multimode_step.Goals as goal
 
 pub returns : goal.returns
 unfolding multimode_step
-returns c = rw (c.multimode_mix.ensures, c.store_ladder.ensures, c.stages.ensures, c.expander_taps-taps.ensures)
+returns c = rw (c.multimode_mix.ensures, c.tapped.ensures.taps, c.tapped.ensures.states)

@@ -3,4 +3,4 @@ use Rattle.file_words.specs.Laws.{word_is}
 use Rattle.file_words.proofs.get_word.Goals as goal
 
 pub returns : goal.returns
-returns c = rw (word_is, c.wide-4.ensures.0, c.wide-3.ensures.0, c.wide-2.ensures.0, c.wide.ensures.0)
+returns c = rw word_is c.from_le_bytes.ensures

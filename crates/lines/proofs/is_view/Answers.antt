@@ -1,13 +1,17 @@
 -- `lines::is_view` meets its contract: a slot is below the number of whole rings just where it ends within the list.
-use Rattle.std.proofs.Common.{rules}
+use Rattle.std.proofs.Common.{sym, ◌∙◌, rules}
+use Rattle.std.proofs.lemmas.Bool.{false≢true}
 use Rattle.lines.specs.View.{is_good, is_bad}
 use Rattle.lines.proofs.is_view.Goals as goal
+use Rattle.lines.proofs.is_view.Goals.{in-1024, in_default}
 
-pub nonzero_div-result : goal.nonzero_div-result
-nonzero_div-result c = (is_good _ 0 0 c.in-1024.is).0
+pub returns-then-matches : goal.returns-then-matches
+returns-then-matches c =
+    elim c.match-matches.branch [ in-1024 w ↦ (is_good _ _ _ w.in-1024.is).1 | in_default w ↦ absurd (false≢true (sym w.matches-is ∙ c.if-matches.true)) ]
 
-pub returns-in-1024 : goal.returns-in-1024
-returns-in-1024 c = (is_good _ _ _ c.in-1024.is).1
-
-pub returns-in_default : goal.returns-in_default
-returns-in_default c = is_bad _ _ _ (search rules)
+pub returns-else-matches : goal.returns-else-matches
+returns-else-matches c =
+    elim c.match-matches.branch [
+      | in-1024 w ↦ absurd (false≢true (sym c.if-matches.false ∙ w.matches-is))
+      | in_default w ↦ w.matches-is ∙ is_bad _ _ _ (search rules)
+    ]

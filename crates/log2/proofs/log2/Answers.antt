@@ -8,6 +8,7 @@ use lib.Ieee.{binary32, fits, to_bits}
 use Rattle.log2.specs.Inner.{offset}
 use Rattle.log2.proofs.Window.{Window, code_window, window_plain, code_log, no_log}
 use Rattle.log2.proofs.log2.Goals as goal
+use Rattle.log2.proofs.log2.Goals.{else-q-via-then-q+else-q-2, else-q-via-else-q}
 
 held : (c : goal.Then-q-2) → T (fits binary32 c.args.q)
 held c = subst T (sym c.well_formed.0.1) tt
@@ -41,8 +42,9 @@ returns-then-q-2 c =
     ∙ ap (λ (z : ℕ). offset ((b / 8388608 - 1) * 1048576 + z)) c.fraction-f.ensures.0
     ∙ code_log q b c.if-q.true c.if-q-2.true (win c.before.before)
 
-pub returns-else-q-2 : goal.returns-else-q-2
-returns-else-q-2 c = no_log c.args.q (inr c.if-q-2.false)
-
 pub returns-else-q : goal.returns-else-q
-returns-else-q c = no_log c.args.q (inl c.if-q.false)
+returns-else-q c =
+    elim c.else-q.branch [
+      | else-q-via-then-q+else-q-2 w ↦ no_log c.args.q (inr w.if-q-2.false)
+      | else-q-via-else-q w ↦ no_log c.args.q (inl w.if-q.false)
+    ]

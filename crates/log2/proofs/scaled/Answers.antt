@@ -3,22 +3,13 @@ use native.Mathlib.Omega.{arith}
 use mathlib.Core.Path.{◌≡◌, sym, ap, ◌∙◌}
 use mathlib.Core.Bool.{true}
 use Prim.Native.Nat.{ℕ, suc, ◌-◌}
-use lib.Dec.{le→leb}
 use lib.IntN.{ℤ}
-use lib.Ieee.{binary32, round, in_float}
+use lib.Ieee.{binary32, round}
 use Rattle.log2.specs.Log2.{quotient}
 use Rattle.log2.proofs.Numerator.{minus_ge, minus_lt}
 use Rattle.log2.proofs.Over.{whole_over, whole_over_neg}
 use borrow.Author.Rules.{rules}
 use Rattle.log2.proofs.scaled.Goals as goal
-
-pub int_to_float-result : goal.int_to_float-result
-unfolding in_float
-int_to_float-result c = le→leb (c.args.v - 132120576) 16777216 (omega arith)
-
-pub int_to_float-result-else-v-ge132120576 : goal.int_to_float-result-else-v-ge132120576
-unfolding in_float
-int_to_float-result-else-v-ge132120576 c = le→leb (132120576 - c.args.v) 16777216 (omega arith)
 
 pub returns-then-v-ge132120576 : goal.returns-then-v-ge132120576
 returns-then-v-ge132120576 c =

@@ -1,43 +1,12 @@
 -- `run_channel` meets its contract: its loop goes through the voices by `Swept`, and each turn is the contract of `run_next`.
-use Prim.Native.Nat.{◌-◌}
 use native.Mathlib.Omega.{arith}
 use Rattle.slots.specs.Slots.{block_run}
-use Rattle.slots.specs.Frame.{swept_start, swept_end, swept_lists, swept_buffers}
 use Rattle.pairs.specs.Channels.{swept_more}
 use Rattle.pairs.proofs.run_channel.Goals as goal
-
-pub run_next-n-requires : goal.run_next-n-requires
-run_next-n-requires c =
-    let l = c.loop-v in
-    (c.requires.0, swept_lists _ _ _ _ _ l.invariant c.requires.1, swept_buffers _ _ _ _ _ l.invariant c.requires.2, c.requires.3, c.loop-v-test.true)
 
 pub loop-v-preserved : goal.loop-v-preserved
 loop-v-preserved c =
     let l = c.loop-v in
-    let next = c.run_next-n in
+    let next = c.run_next-v in
     swept_more _ _ _ l.v next.result (block_run l.records l.delay l.audio l.counts) _ l.invariant next.ensures.1 next.ensures.2
     (omega arith) (omega arith) (omega arith) (omega arith)
-
-pub loop-v-init : goal.loop-v-init
-loop-v-init c = swept_start _ _ _
-
-pub overflow_add-v : goal.overflow_add-v
-overflow_add-v c = omega (arith, c.run_next-n.ensures.1, c.requires.0.voices)
-
-pub loop-v-smaller : goal.loop-v-smaller
-loop-v-smaller c = omega (arith, c.run_next-n.ensures.0, c.run_next-n.ensures.1)
-
-pub shape_of-records : goal.shape_of-records
-shape_of-records c = c.loop-v.invariant.records
-
-pub shape_of-delay : goal.shape_of-delay
-shape_of-delay c = c.loop-v.invariant.delay
-
-pub shape_of-audio : goal.shape_of-audio
-shape_of-audio c = c.loop-v.invariant.audio
-
-pub shape_of-counts : goal.shape_of-counts
-shape_of-counts c = c.loop-v.invariant.counts
-
-pub returns : goal.returns
-returns c = swept_end _ _ _ _ _ c.loop-v.invariant c.loop-v-test.false

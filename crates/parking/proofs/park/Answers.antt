@@ -1,48 +1,60 @@
 -- `parking::park` meets its contract: by the verdict. A refusal changes nothing; accepted, `park_file` has written the words of the setup and the lists,
 -- which are f32s, so that they come back. Assumes nothing.
 use native.Mathlib.Omega.{arith}
+use Rattle.std.proofs.lemmas.Result.{err_from_is_err_and}
 use Rattle.checks.specs.Checks.{bank_of}
 use Rattle.checks.specs.Accepted.{refused_by_lem, fine_by}
-use Rattle.bank.specs.Bank.{answer_of, cursor_of}
+use Rattle.bank.specs.Bank.{answer_of}
 use Rattle.setups.specs.Back.{F32Bank}
 use Rattle.parking.proofs.Writing.{not_accepted, known, room_for, written, holds}
 use Rattle.parking.proofs.park.Goals as goal
 
-pub returns-in-Refused : goal.returns-in-Refused
-unfolding answer_of cursor_of
-returns-in-Refused c =
-    let r = refused_by_lem c.park_check-checked.ensures c.in-Refused.is in
-    record { does = rw r; written = rw r; holds = not_accepted _ _ r }
-
--- the slices are of f32s
-f32s : (c : goal.After-content-2-1) → let a = c.args in F32Bank (bank_of a.targets.now a.records.now a.delay.now a.cursor)
-f32s c =
-    record { targets = λ i l. c.shared_slice_known-1.given i; records = λ i l. c.shared_slice_known-2-1.given i; delay = λ i l. c.shared_slice_known-3-1.given i }
+pub returns-in_err-park_check : goal.returns-in_err-park_check
+unfolding answer_of
+returns-in_err-park_check c =
+    let p = err_from_is_err_and c.from_residual.result c.from_residual.ensures.1 in
+    let r = refused_by_lem c.park_check.ensures c.in_err-park_check.was in
+    record { does = rw (p.1, p.2, r); written = rw r; holds = not_accepted _ _ r }
 
 pub setup_words-requires : goal.setup_words-requires
-setup_words-requires c = (omega (arith, (known c.args.setup (bank_of c.args.targets.now c.args.records.now c.args.delay.now c.args.cursor) c.args.file.now (fine_by c.park_check-checked.ensures c.in_default.is)).voices), omega (arith, (known c.args.setup (bank_of c.args.targets.now c.args.records.now c.args.delay.now c.args.cursor) c.args.file.now (fine_by c.park_check-checked.ensures c.in_default.is)).channels), (omega arith))
+setup_words-requires c =
+    let a = c.args in
+    let o = fine_by c.park_check.ensures c.in_ok-park_check.was in
+    let k = known a.setup (bank_of a.targets.now a.records.now a.delay.now a.cursor) a.file.now o in
+    (omega (arith, k.voices), omega (arith, k.channels), (omega arith))
 
 pub overflow_mul-setup : goal.overflow_mul-setup
-overflow_mul-setup c = omega (arith, (known c.args.setup (bank_of c.args.targets.now c.args.records.now c.args.delay.now c.args.cursor) c.args.file.now (fine_by c.park_check-checked.ensures c.in_default.is)).slots)
+overflow_mul-setup c =
+    let a = c.args in
+    let o = fine_by c.park_check.ensures c.in_ok-park_check.was in
+    omega (arith, (known a.setup (bank_of a.targets.now a.records.now a.delay.now a.cursor) a.file.now o).slots)
 
 pub overflow_add-len : goal.overflow_add-len
-overflow_add-len c = omega (arith, c.ring_len-len.ensures, (known c.args.setup (bank_of c.args.targets.now c.args.records.now c.args.delay.now c.args.cursor) c.args.file.now (fine_by c.park_check-checked.ensures c.in_default.is)).longest)
+overflow_add-len c =
+    let a = c.args in
+    let o = fine_by c.park_check.ensures c.in_ok-park_check.was in
+    omega (arith, c.ring_len-len.ensures, (known a.setup (bank_of a.targets.now a.records.now a.delay.now a.cursor) a.file.now o).longest)
 
 pub park_file-requires : goal.park_file-requires
 park_file-requires c =
     let a = c.args in
-    record { room = room_for a.setup (bank_of a.targets.now a.records.now a.delay.now a.cursor) a.file.now (fine_by c.park_check-checked.ensures c.in_default.is) _ c.setup_words.ensures.0 _ c.ring_len-len.ensures; words_len = omega arith }
+    let o = fine_by c.park_check.ensures c.in_ok-park_check.was in
+    record { room = room_for a.setup (bank_of a.targets.now a.records.now a.delay.now a.cursor) a.file.now o _ c.setup_words.ensures.0 _ c.ring_len-len.ensures }
 
 pub returns : goal.returns
-unfolding answer_of cursor_of
+unfolding answer_of
 returns c =
     let a = c.args in
+    let o = fine_by c.park_check.ensures c.in_ok-park_check.was in
     let b = bank_of a.targets.now a.records.now a.delay.now a.cursor in
     let w = c.setup_words.ensures in
     let l = c.ring_len-len.ensures in
     let e = c.park_file.ensures in
+    -- the slices are of f32s
+    let f : F32Bank b =
+    record { targets = λ i l. c.shared_slice_known-1.given i; records = λ i l. c.shared_slice_known-2-1.given i; delay = λ i l. c.shared_slice_known-3-1.given i } in
     record {
-      does = rw (fine_by c.park_check-checked.ensures c.in_default.is);
-      written = written a.setup b a.file.now (fine_by c.park_check-checked.ensures c.in_default.is) _ w.0 _ l _ e;
-      holds = λ ok. holds a.setup b a.file.now (fine_by c.park_check-checked.ensures c.in_default.is) _ w.0 _ l _ e w.1 (f32s c);
+      does = rw o;
+      written = written a.setup b a.file.now o _ w.0 _ l _ e;
+      holds = λ ok. holds a.setup b a.file.now o _ w.0 _ l _ e w.1 f;
     }

@@ -5,6 +5,3 @@ use Rattle.parking.proofs.parked_setup.Goals as goal
 
 pub read_file-requires : goal.read_file-requires
 read_file-requires c = record { size = (omega arith); clear = λ k l. get_or-replicate 16722 k 0 0 l }
-
-pub returns : goal.returns
-returns c = c.read_file.ensures.held

@@ -1,6 +1,6 @@
 -- `parking::read_sections` meets its contract. Assumes nothing.
-use mathlib.Core.Path.{◌≡◌, refl, ap, ◌∙◌}
-use Prim.Native.Nat.{ℕ, ◌+◌, ◌-◌}
+use mathlib.Core.Path.{◌≡◌, ap, ◌∙◌}
+use Prim.Native.Nat.{ℕ, ◌+◌}
 use native.Mathlib.Omega.{arith}
 use mathlib.Core.List.{◌++◌}
 use lib.ListN.{drop, replicate}
@@ -12,14 +12,8 @@ use Rattle.setups.specs.Parked.{setup_word}
 use Rattle.parking.specs.Asks.{sections_in}
 use Rattle.parking.proofs.read_sections.Goals as goal
 
-pub loop-i-init : goal.loop-i-init
-loop-i-init c = (omega arith, refl)
-
-pub file_word-requires : goal.file_word-requires
-file_word-requires c = (c.requires, (omega arith))
-
 pub loop-i-preserved : goal.loop-i-preserved
-loop-i-preserved c = (omega arith, tab_again (λ k. float_of (setup_word c.args.file.now (9 + k))) _ _ _ _ nan (omega arith) c.loop-i.invariant.1 (c.float_of.ensures ∙ ap float_of c.file_word.ensures))
+loop-i-preserved c = tab_again (λ k. float_of (setup_word c.args.file.now (9 + k))) _ _ _ _ nan (omega arith) c.loop-i.invariant (c.float_of.ensures ∙ ap float_of c.file_word.ensures)
 
 pub returns : goal.returns
 unfolding sections_in of_bits round
@@ -27,4 +21,4 @@ returns c =
     let l = c.loop-i in
     let word : ℕ → Float = λ k. float_of (setup_word c.args.file.now (9 + k)) in
     let e : l.i ≡ 160 = omega arith in
-    l.invariant.1 ∙ ap (λ (i : ℕ). tab word i ++ drop i (replicate 320 (of_bits binary32 0))) e
+    l.invariant ∙ ap (λ (i : ℕ). tab word i ++ drop i (replicate 320 (of_bits binary32 0))) e

@@ -1,6 +1,6 @@
 -- `parking::read_sections` meets its contract. Assumes nothing.
 use mathlib.Core.Path.{◌≡◌}
-use Prim.Native.Nat.{◌+◌, ◌-◌, ◌≤◌}
+use Prim.Native.Nat.{◌+◌}
 use mathlib.Core.List.{◌++◌}
 use lib.ListN.{drop}
 use Rattle.parts.specs.Parts.{tab}
@@ -9,7 +9,4 @@ use Rattle.setups.specs.Parked.{setup_word}
 use Rattle.parking.proofs.read_sections.Given as goal
 
 abbrev pub invariant-loop-i : goal.invariant-loop-i
-invariant-loop-i l = (l.i ≤ 160) × (l.sections ≡ tab (λ k. float_of (setup_word l.file (9 + k))) l.i ++ drop l.i l.initial.sections)
-
-abbrev pub decreases-loop-i : goal.decreases-loop-i
-decreases-loop-i l = 160 - l.i
+invariant-loop-i l = (l.sections ≡ tab (λ k. float_of (setup_word l.file (9 + k))) l.i ++ drop l.i l.initial.sections)

@@ -1,6 +1,8 @@
 -- `parking::setup_words` meets its contract. Assumes nothing.
-use mathlib.Core.Path.{◌≡◌, refl, sym, ap, ◌∙◌}
+use mathlib.Core.Path.{◌≡◌, ap, ◌∙◌}
 use Prim.Native.Nat.{ℕ, ◌/◌, ◌%◌}
+use mathlib.Core.Bool.{Bool, true, false}
+use mir.Val.{bool_byte}
 use mathlib.Core.List.{List, ◌∷◌, []}
 use Rattle.text.specs.Text.{bits_of}
 use Prim.Native.Nat.{◌+◌, ◌-◌, ◌<◌}
@@ -31,12 +33,6 @@ Start = lts.Start tie.the-claims reads.Pre reads.Post
 sized : (c : Start) → length c.args.setup.table.sections ≡ 320
 sized c = search rules
 
-pub slice_bounds-words_from-end-2 : goal.slice_bounds-words_from-end-2
-slice_bounds-words_from-end-2 c = sym (sized c.before.before.before.before.before.before.before.before.before.before.before)
-
-pub words_from-requires : goal.words_from-requires
-words_from-requires c = (refl, sized c.before.before.before.before.before.before.before.before.before.before.before.before, c.requires.2)
-
 -- word by word, the nine in front, the table's numbers, its gain
 words_are : (a b c d e f g h i : ℕ) (sections : List Float) (gain : ℕ)
     → let front = a ∷ b ∷ c ∷ d ∷ e ∷ f ∷ g ∷ h ∷ i ∷ [] in words_from front sections gain ≡ front ++ tab (λ k. bits_of (sections ‼ k)) 160 ++ gain ∷ []
@@ -61,9 +57,14 @@ made s cur words o r f g a b d e u =
     ∙ words_are s.code s.voices s.channels (clean_word s.clean) (bits_of s.rate) (bits_of s.reference) (cur % 4294967296) (cur / 4294967296) s.table.active
     s.table.sections (bits_of s.table.gain)
 
+-- a flag as a word
+clean_is : (b : Bool) (w : ℕ) → w ≡ bool_byte b → w ≡ clean_word b
+clean_is true w e = e
+clean_is false w e = e
+
 pub returns : goal.returns
 returns c = (
-  made c.args.setup c.args.cursor _ _ _ _ _ c.clean_word.ensures c.word_of.ensures.0 c.word_of-2.ensures.0 c.word_of-3.ensures.0 c.words_from.ensures.0,
+  made c.args.setup c.args.cursor _ _ _ _ _ (clean_is _ _ c.from.ensures) c.word_of.ensures.0 c.word_of-2.ensures.0 c.word_of-3.ensures.0 c.words_from.ensures.0,
   record {
     rate = c.word_of.ensures.1;
     reference = c.word_of-2.ensures.1;

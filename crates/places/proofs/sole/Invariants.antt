@@ -1,12 +1,9 @@
 -- `places::sole` meets its contract. Assumes nothing.
 use mathlib.Core.Path.{◌≡◌}
-use Prim.Native.Nat.{◌-◌, ◌≤◌}
+use Prim.Native.Nat.{◌≤◌}
 use Rattle.places.specs.Places.{count, place_of}
 use Rattle.places.specs.Places.{head_in}
 use Rattle.places.proofs.sole.Given as goal
 
 abbrev pub invariant-loop-b : goal.invariant-loop-b
-invariant-loop-b l = (l.b ≤ l.blocks) × (l.seen ≡ count (head_in l.file) l.head l.b) × (l.at ≡ place_of (head_in l.file) l.head l.b) × (l.seen ≤ l.b)
-
-abbrev pub decreases-loop-b : goal.decreases-loop-b
-decreases-loop-b l = l.blocks - l.b
+invariant-loop-b l = (l.seen ≡ count (head_in l.file) l.head l.b) × (l.at ≡ place_of (head_in l.file) l.head l.b) × (l.seen ≤ l.b)

@@ -1,24 +1,13 @@
--- `store` meets its contract. The loop's invariant: the first i terms are pasted over the list from n × 20 on;
--- the measure is what is left of the twenty terms.
-use native.Mathlib.Omega.{arith}
-use native.Mathlib.Numerals.{add-one}
-use Prim.Native.Nat.{◌*◌}
-use mathlib.Core.Path.{◌≡◌, ◌∙◌}
-use lib.Ieee.{nan}
-use lib.Seq.{paste-zero, paste-suc}
-use Rattle.parts.specs.Laws.{patch_paste}
+-- `store` meets its contract: the twenty numbers from n × 20 on are the terms.
+use Rattle.std.proofs.Common.{◌+◌, ◌*◌, ◌-◌, ◌≡◌, ◌++◌, take, ap, sym, ◌∙◌, append_assoc, arith}
+use lib.Seq.{drop-drop}
+use Rattle.parts.specs.Parts.{patch}
 use Rattle.pole_zero.proofs.store.Goals as goal
 
-pub loop-i-preserved : goal.loop-i-preserved
-loop-i-preserved c =
-    let a = c.args in
-    (omega arith, rw (add-one, c.loop-i.invariant.1) (paste-suc a.sections (a.n * 20) a.t c.loop-i.i nan (omega arith) (omega arith)))
-
 pub returns : goal.returns
+unfolding patch
 returns c =
-    let e : c.loop-i.i ≡ 20 = omega arith in
-    let a = c.args in
-    c.loop-i.invariant.1 ∙ rw e (patch_paste 20 a.n a.t a.sections (omega arith))
-
-pub loop-i-init : goal.loop-i-init
-loop-i-init c = (omega arith, paste-zero c.args.sections (c.args.n * 20) c.args.t)
+    let at = c.args.n * 20 in
+    let s = c.args.sections in
+    let e : at + 20 - at ≡ 20 = omega arith in
+    rw (e, c.copy_from_slice.ensures.after) (ap (λ rest. take at s ++ (c.args.t ++ rest)) (drop-drop 20 at s) ∙ sym (append_assoc (take at s) c.args.t _))

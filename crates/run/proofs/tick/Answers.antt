@@ -18,22 +18,16 @@ returns c =
     let next = c.smooth_on.new.params in (
       λ b runs. (
         (c.raised.ensures b runs).0,
-        frame a.m a.sections.now a.at a.f a.targets.now a.params.now a.state.now (settled_of b a.peak.now) a.delay.now next
+        frame a.m a.sections.now a.at a.f a.targets.now a.rec.now.params a.rec.now.state (settled_of b a.rec.now.peak) a.delay.now next
             (record { pitch = fma (next ‼ OFFSET) a.f.sign a.f.pitch.0; x = c.steer.result; y = c.steer-2.result })
             _ _ _ _ _
             c.requires.0 c.smooth_on.ensures refl c.steer.ensures c.steer-2.ensures kernel.0 kernel.1 c.mix-out.ensures refl (c.raised.ensures b runs).1,
       ),
       subst (λ (n : ℕ). n ≤ 8) (sym kernel.1) (few_over _ _ _ _ _ _),
       record {
-        params = ap length c.smooth_on.ensures ∙ smooth_length a.m.k.alpha a.targets.now a.params.now;
+        params = ap length c.smooth_on.ensures ∙ smooth_length a.m.k.alpha a.targets.now a.rec.now.params;
         state = ap length kernel.0.states ∙ (kernel_tick_kept _ _ _ _ _ _ _ _ _ _).states ∙ c.requires.0.state;
       },
       kernel.2,
       c.smooth_on.ensures,
     )
-
-pub smooth_on-requires : goal.smooth_on-requires
-smooth_on-requires c = c.requires.3
-
-pub kernel_tick-wet-requires : goal.kernel_tick-wet-requires
-kernel_tick-wet-requires c = (c.requires.1, c.requires.2)

@@ -1,5 +1,5 @@
 -- `has_glided` meets its contract: smoothing left the smoothed numbers as they were.
-use Rattle.std.proofs.Common.{◌≡◌, List, length, take, sym, ap, ◌∙◌, true≢false, arith, take_all}
+use Rattle.std.proofs.Common.{◌≡◌, List, length, take, sym, ap, ◌∙◌, arith, take_all}
 use lib.Ieee.{Float}
 use Rattle.run.specs.Run.{smooth_of}
 use Rattle.run.specs.Laws.{smooth_length}
@@ -14,19 +14,6 @@ glided : (alpha : Float) (targets params next : List Float) → length params �
 glided alpha targets params next l e h =
     let k : length next ≡ 11 = long alpha targets params next e in
     sym e ∙ sym (take_all 11 next (omega (arith, k))) ∙ sym h ∙ take_all 11 params (omega (arith, l))
-
-pub returns-then-not-own : goal.returns-then-not-own
-returns-then-not-own c e = absurd (true≢false (sym e))
-
-pub slice_bounds-is_same-end : goal.slice_bounds-is_same-end
-slice_bounds-is_same-end c =
-    let a = c.args in
-    sym (long a.alpha a.targets.now a.params.now _ c.smooth.ensures)
-
-pub is_same-requires : goal.is_same-requires
-is_same-requires c =
-    let a = c.args in
-    (omega (arith, long a.alpha a.targets.now a.params.now c.smooth.new.params c.smooth.ensures), omega (arith, c.requires))
 
 pub returns : goal.returns
 returns c r =

@@ -9,17 +9,5 @@ use Rattle.slots.proofs.load_smoothed.Goals as goal
 pub returns : goal.returns
 returns c =
     let a = c.args in
-    ap (λ (l : List Float). set l 10 (a.list.now ‼ (a.at + record_z))) c.load_targets-into.ensures
+    ap (λ (l : List Float). set l 10 (a.list.now ‼ (a.at + record_z))) c.load-into.ensures
     ∙ last_replaced (drop a.at a.list.now) (simp length-drop (omega (arith, c.requires))) _
-
-pub load_targets-into-requires : goal.load_targets-into-requires
-load_targets-into-requires c = omega (arith, c.requires)
-
-pub overflow_add-into : goal.overflow_add-into
-overflow_add-into c = omega (arith, c.requires, c.well_formed.0)
-
-pub offset_bounds-list-at : goal.offset_bounds-list-at
-offset_bounds-list-at c = omega (arith, c.requires, c.well_formed.0)
-
-pub bounds-list-at : goal.bounds-list-at
-bounds-list-at c = omega (arith, c.requires)

@@ -3,11 +3,5 @@ use Rattle.std.proofs.Common.{arith}
 use Rattle.parts.specs.Laws.{flat_lt}
 use Rattle.slots.proofs.place_at.Goals as goal
 
-pub overflow_mul-result : goal.overflow_mul-result
-overflow_mul-result c = omega (arith, flat_lt c.args.rows c.args.width c.args.row c.args.column c.requires.0 c.requires.1)
-
-pub overflow_add-result : goal.overflow_add-result
-overflow_add-result c = omega (arith, flat_lt c.args.rows c.args.width c.args.row c.args.column c.requires.0 c.requires.1)
-
 pub returns : goal.returns
 returns c = omega (arith, flat_lt c.args.rows c.args.width c.args.row c.args.column c.requires.0 c.requires.1)

@@ -18,16 +18,16 @@ runs : (b r : Float) → r ≡ running_of b → Runs b (running_of b) → settle
     → (r ≡ running_of b) × (Runs b r) × (settled_of b r ≡ b)
 runs b r e h k = (e, subst (Runs b) (sym e) h, ap (settled_of b) e ∙ k)
 
+pub returns-else-is_plain : goal.returns-else-is_plain
+unfolding neg round of_bits
+returns-else-is_plain c =
+    let p = c.is_plain.ensures in
+    let b = c.args.peak in
+    runs b (neg one) (other b (sym p.0 ∙ c.if-is_plain.false)) p.1 p.2
+
 pub returns-then-is_plain : goal.returns-then-is_plain
 unfolding neg round of_bits
 returns-then-is_plain c =
     let p = c.is_plain.ensures in
     let b = c.args.peak in
     runs b b (plain b (sym p.0 ∙ c.if-is_plain.true)) p.1 p.2
-
-pub returns : goal.returns
-unfolding neg round of_bits
-returns c =
-    let p = c.is_plain.ensures in
-    let b = c.args.peak in
-    runs b (neg one) (other b (sym p.0 ∙ c.if-is_plain.false)) p.1 p.2

@@ -9,6 +9,3 @@ returns c =
       refl,
       refl,
     )
-
-pub place_at-number-requires : goal.place_at-number-requires
-place_at-number-requires c = (c.requires.1, c.requires.2, c.requires.0.slots)

@@ -3,8 +3,5 @@ use Rattle.std.proofs.Common.{arith}
 use Rattle.parts.specs.Laws.{piece_fits}
 use Rattle.slots.proofs.start_of.Goals as goal
 
-pub overflow_mul-result : goal.overflow_mul-result
-overflow_mul-result c = omega (arith, piece_fits c.args.width c.args.s c.args.pieces c.requires.0)
-
 pub returns : goal.returns
 returns c = omega (arith, piece_fits c.args.width c.args.s c.args.pieces c.requires.0)

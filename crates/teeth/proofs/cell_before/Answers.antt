@@ -2,12 +2,8 @@
 use mathlib.Core.Path.{ap, ◌∙◌, subst}
 use Prim.Native.Nat.{ℕ, ◌+◌, ◌-◌, ◌<◌, ◌≤◌}
 use native.Mathlib.Omega.{arith}
-use Rattle.lines.specs.View.{Length, length_of}
 use Rattle.teeth.specs.Cells.{cell_near, cell_far}
 use Rattle.teeth.proofs.cell_before.Goals as goal
-
-view : (c : goal.Else-back-own) → Length c.args.len
-view c = length_of _ c.requires.0
 
 pub returns-then-back-own : goal.returns-then-back-own
 returns-then-back-own c =
@@ -18,11 +14,8 @@ returns-then-back-own c =
           ∙ cell_near a.len cursor a.back c.requires.0 w c.requires.2 (subst (λ (o : ℕ). a.back ≤ o) e h),
     )
 
-pub overflow_add-result : goal.overflow_add-result
-overflow_add-result c = let v = view c in let m = v.most in omega arith
-
-pub returns : goal.returns
-returns c =
+pub returns-else-back-own : goal.returns-else-back-own
+returns-else-back-own c =
     let a = c.args in
     let h : a.own < a.back = omega arith in (
       omega arith,

@@ -11,9 +11,6 @@ use Rattle.teeth.proofs.chord_read.Goals as goal
 pub plan_teeth-requires : goal.plan_teeth-requires
 plan_teeth-requires c = ((good _ _ _ (sym c.is_view.ensures ∙ c.if-is_view.true)).size, record { cells = refl; fractions = refl })
 
-pub read_planned-requires : goal.read_planned-requires
-read_planned-requires c = (sym c.is_view.ensures ∙ c.if-is_view.true, c.plan_teeth.ensures.0)
-
 pub returns-then-is_view : goal.returns-then-is_view
 unfolding chord_size
 returns-then-is_view c =
@@ -27,9 +24,9 @@ returns-then-is_view c =
           ∙ chord_good a.buf.now a.len a.cursor a.slot a.ratio a.chord e;
     }
 
-pub returns : goal.returns
+pub returns-else-is_view : goal.returns-else-is_view
 unfolding chord_size of_bits round
-returns c =
+returns-else-is_view c =
     let a = c.args in
     let e = sym c.is_view.ensures ∙ c.if-is_view.false in
     record { cells = rw e refl; values = chord_bad a.buf.now a.len a.cursor a.slot a.ratio a.chord e }

@@ -1,29 +1,15 @@
--- `teeth::earlier` meets its contract: no tooth passed needs the cell.
-use mathlib.Core.Path.{sym, ap, ◌∙◌}
-use Prim.Native.Nat.{ℕ}
+-- `teeth::earlier` meets its contract: the search goes over the teeth before tooth i.
+use borrow.Author.Rules.{rules}
 use native.Mathlib.Omega.{arith}
-use Rattle.teeth.specs.Teeth.{is_needed}
-use Rattle.teeth.specs.Needed.{needed_none, needed_more}
-use Rattle.teeth.specs.Placing.{kept}
+use Rattle.std.proofs.Common.{◌≡◌, ℕ, ◌<◌, true, false, take, length, MatchOption}
+use Rattle.teeth.specs.Teeth.{is_of_four}
+use Rattle.teeth.specs.Placing.{kept, earlier_of}
 use Rattle.teeth.proofs.earlier.Goals as goal
-
-pub loop-j-init : goal.loop-j-init
-loop-j-init c = (omega arith, needed_none _ _)
-
-pub returns-then-is_of_four : goal.returns-then-is_of_four
-returns-then-is_of_four c = record { most = omega arith; some = λ l. sym c.is_of_four.ensures ∙ c.if-is_of_four.true; none = λ e. absurd (omega arith) }
-
-pub loop-j-preserved : goal.loop-j-preserved
-loop-j-preserved c =
-    let l = c.loop-j in
-    (omega arith, needed_more _ _ _ l.invariant.1 (sym c.is_of_four.ensures ∙ c.if-is_of_four.false))
 
 pub returns : goal.returns
 returns c =
     let a = c.args in
-    let l = c.loop-j in
-    record {
-      most = omega arith;
-      some = λ h. absurd (omega arith);
-      none = λ e. ap (λ (k : ℕ). is_needed (kept a.firsts.now) k a.back) (sym e) ∙ l.invariant.1;
-    }
+    let before = take a.i a.firsts.now in
+    let found : MatchOption c.position.result ((j : ℕ) → j < length before → is_of_four (kept before j) a.back ≡ false)
+    (λ j. (j < length before) × (is_of_four (kept before j) a.back ≡ true)) = search rules in
+    earlier_of a.firsts.now a.i (omega arith) a.back c.position.result found

@@ -1,24 +1,14 @@
--- `teeth::is_clear` meets its contract: each tooth passed is apart.
-use mathlib.Core.Path.{◌≡◌, subst}
-use mathlib.Core.Bool.{false≢true}
-use Prim.Native.Nat.{ℕ}
+-- `teeth::is_clear` meets its contract: each tooth before tooth i is apart.
+use borrow.Author.Rules.{rules}
 use native.Mathlib.Omega.{arith}
-use Rattle.teeth.specs.Needed.{Clear, clear_none, clear_more}
-use Rattle.teeth.specs.Placing.{kept}
+use Rattle.std.proofs.Common.{◌≡◌, true, ℕ, ◌<◌, take, length}
+use Rattle.teeth.specs.Needed.{Apart}
+use Rattle.teeth.specs.Placing.{kept, clear_before}
 use Rattle.teeth.proofs.is_clear.Goals as goal
-
-pub loop-j-init : goal.loop-j-init
-loop-j-init c = (omega arith, clear_none _ _)
-
-pub loop-j-preserved : goal.loop-j-preserved
-loop-j-preserved c = (omega arith, clear_more _ _ _ c.loop-j.invariant.1 (c.is_apart.ensures c.if-is_apart.true))
-
-pub returns-else-is_apart : goal.returns-else-is_apart
-returns-else-is_apart c = λ e. absurd (false≢true e)
 
 pub returns : goal.returns
 returns c =
     let a = c.args in
-    let l = c.loop-j in
-    let e : l.j ≡ a.i = omega arith in
-    λ t. subst (λ (k : ℕ). Clear (kept a.firsts.now) k a.a) e l.invariant.1
+    let before = take a.i a.firsts.now in
+    let apart : c.all.result ≡ true → (j : ℕ) → j < length before → Apart (kept before j) a.a = search rules in
+    λ e. clear_before a.firsts.now a.i (omega arith) a.a (apart e)

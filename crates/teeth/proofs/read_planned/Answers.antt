@@ -26,9 +26,6 @@ returns-then-n-eq0 c =
       list = rest_none read (a.teeth.now ‼ 8) a.chord none;
     }
 
-pub load_cells-cells-requires : goal.load_cells-cells-requires
-load_cells-cells-requires c = (c.requires.0, c.requires.1.few, c.requires.1.inside)
-
 pub add_taps-sum-requires : goal.add_taps-sum-requires
 unfolding of_bits round
 add_taps-sum-requires c =
@@ -60,9 +57,6 @@ returns c =
       list = taps_are a.len a.cursor ring a.chord a.plan.now a.teeth.now cells.result r.new.taps g c.requires.1 cells.ensures
           (subst (λ (k : ℕ). Tapped tap k r.new.taps) n.ensures r.ensures.made);
     }
-
-pub int_to_float-result : goal.int_to_float-result
-int_to_float-result c = exact c.teeth_of-n.result (omega (arith, c.if-n-eq0.true))
 
 pub int_to_float-result-2 : goal.int_to_float-result-2
 int_to_float-result-2 c = exact c.teeth_of-n.result (omega (arith, c.teeth_of-n.ensures, few_teeth c.args.chord))

@@ -1,16 +1,16 @@
--- `first_of` meets its contract. The loop's invariant: what is sought from i on is what is sought from `at` on. Assumes nothing.
-use mathlib.Core.Path.{sym, ◌∙◌}
-use Rattle.text.proofs.Reading.{first_a, first_b, first_on, first_end}
+-- `first_of` meets its contract: what is passed from `at` on is the front in which each byte is neither. Assumes nothing.
+use Rattle.std.proofs.Common.{rules, not, ◌&&◌, eqb, drop}
+use Rattle.std.proofs.lemmas.Iterator.{YieldsList-from_slice}
+use Rattle.std.proofs.lemmas.Iterator.Consumers.{count_from_yields_List}
+use Rattle.std.proofs.lemmas.Iterator.Search.{YieldsList-from_take_while}
+use borrow.Author.Tests.{tests}
+use Rattle.text.proofs.Reading.{first_is}
 use Rattle.text.proofs.first_of.Goals as goal
 
-pub returns-then-s-i : goal.returns-then-s-i
-returns-then-s-i c = first_a _ _ _ _ c.loop-i-test.true c.if-s-i.true ∙ c.loop-i.invariant
-
-pub returns-then-s-i-2 : goal.returns-then-s-i-2
-returns-then-s-i-2 c = first_b _ _ _ _ c.loop-i-test.true c.if-s-i-2.true ∙ c.loop-i.invariant
-
-pub loop-i-preserved : goal.loop-i-preserved
-loop-i-preserved c = first_on _ _ _ _ c.loop-i-test.true c.if-s-i.false c.if-s-i-2.false ∙ c.loop-i.invariant
-
 pub returns : goal.returns
-returns c = sym (first_end _ _ _ _ c.loop-i-test.false) ∙ c.loop-i.invariant
+returns c =
+    let a = c.args in
+    first_is a.a a.b a.s.now a.at c.count.result
+    (count_from_yields_List _ _ c.count.ensures.ran
+    (YieldsList-from_take_while _ (λ x. not (eqb x a.a) && not (eqb x a.b))
+    (YieldsList-from_slice (drop a.at a.s.now) (cc)) c.take_while.ensures.closure c.take_while.ensures.done (λ x b q k. search (rules, tests))))

@@ -1,15 +1,17 @@
--- `hexadecimal` meets its contract: the digits of a word that lies in the text, and no digit elsewhere. Assumes nothing.
-use Rattle.text.specs.Text.{hex_of}
-use Rattle.text.proofs.Reading.{part_in, part_empty, part_past}
+-- `hexadecimal` meets its contract: the number of eight digits, which is below 2 ^ 32. Assumes nothing.
+use Rattle.std.proofs.Common.{◌∙◌, sym, arith}
+use Rattle.text.proofs.Reading.{within, hex_other, hex_is}
 use Rattle.text.proofs.hexadecimal.Goals as goal
 
-pub returns-then-start-end : goal.returns-then-start-end
-returns-then-start-end c = rw (part_in _ c.args.w c.if-end-s.true) c.eight_digits.ensures
+pub returns-then-word-ne8 : goal.returns-then-word-ne8
+returns-then-word-ne8 c = hex_other _ _ c.bytes_of-word.ensures c.if-word-ne8.true
 
-pub returns-else-start-end : goal.returns-else-start-end
-unfolding hex_of
-returns-else-start-end c = rw (part_empty _ c.args.w c.if-start-end.false)
+pub returns-in_err-bits : goal.returns-in_err-bits
+returns-in_err-bits c =
+    c.from_residual.ensures ∙ sym (c.in_err-bits.was) ∙ hex_is _ _ _ _ c.bytes_of-word.ensures c.if-word-ne8.false c.from.ensures c.digits.ensures
 
-pub returns-else-end-s : goal.returns-else-end-s
-unfolding hex_of
-returns-else-end-s c = rw (part_past _ c.args.w c.if-end-s.false)
+pub overflow_cast-result : goal.overflow_cast-result
+overflow_cast-result c = omega (arith, within 16 c.from.result c.bytes_of-word.result.now 0 _ (omega arith) (sym c.digits.ensures ∙ c.in_ok-bits.was))
+
+pub returns : goal.returns
+returns c = sym (c.in_ok-bits.was) ∙ hex_is _ _ _ _ c.bytes_of-word.ensures c.if-word-ne8.false c.from.ensures c.digits.ensures

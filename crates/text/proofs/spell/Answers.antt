@@ -1,4 +1,4 @@
--- `spell` meets its contract. The loop's invariant: the digits of what is left, before those stored from i on, are the digits of n. Assumes nothing.
+-- `spell` meets its contract: with i places left, the digits of what is left, before those stored from i on, are the digits of n. Assumes nothing.
 use mathlib.Core.Path.{◌≡◌, ◌∙◌}
 use Prim.Native.Nat.{◌≤◌}
 use native.Mathlib.Omega.{arith}
@@ -12,9 +12,6 @@ unfolding decimal_text
 loop-i-init c =
     let h : length c.args.text.now ≤ 20 = omega arith in
     (rw (drop_of_length-le c.args.text.now h), omega arith, c.requires)
-
-pub shape_of-text-then-rest-lt10 : goal.shape_of-text-then-rest-lt10
-shape_of-text-then-rest-lt10 c = simp length-set (omega arith)
 
 pub returns-then-rest-lt10 : goal.returns-then-rest-lt10
 returns-then-rest-lt10 c =

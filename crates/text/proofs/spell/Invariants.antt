@@ -7,6 +7,3 @@ use Rattle.text.proofs.spell.Given as goal
 
 abbrev pub invariant-loop-i : goal.invariant-loop-i
 invariant-loop-i l = (spelled l.i l.rest (drop l.i l.text) ≡ decimal_text l.n) × (l.i ≤ 20) × (length l.text ≡ 20)
-
-abbrev pub decreases-loop-i : goal.decreases-loop-i
-decreases-loop-i l = l.i

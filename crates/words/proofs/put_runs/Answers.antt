@@ -1,25 +1,15 @@
--- `put_runs` meets its contract. The loop's invariant: the numbers from i on lead where all lead, and the buffer is as long as it was. Assumes nothing.
-use mathlib.Core.Path.{refl, sym, ◌∙◌}
-use native.Mathlib.Omega.{arith}
-use Rattle.words.proofs.Writing.{run_within, run_least, runs_on, runs_end}
+-- `put_runs` meets its contract. The loop's invariant: the numbers left lead where all lead. Assumes nothing.
+use Rattle.std.proofs.Common.{refl, sym, ◌∙◌, rules}
+use Rattle.std.proofs.lemmas.List.Sorted.{answers_always}
+use borrow.Author.Tests.{tests}
+use Rattle.words.proofs.Writing.{same, runs_on, runs_end}
 use Rattle.words.proofs.put_runs.Goals as goal
 
-pub loop-i-init : goal.loop-i-init
-loop-i-init c = (refl, refl)
-
-pub overflow_add-i : goal.overflow_add-i
-overflow_add-i c = omega (arith, run_within _ c.args.xs.now c.loop-i.i _ c.run_len-n.ensures)
-
-pub loop-i-smaller : goal.loop-i-smaller
-loop-i-smaller c =
-    let xs = c.args.xs.now in
-    omega (arith, run_within _ xs c.loop-i.i _ c.run_len-n.ensures, run_least xs c.loop-i.i _ _ c.loop-i-test.true c.bits_of-bits.ensures c.run_len-n.ensures)
-
-pub loop-i-preserved : goal.loop-i-preserved
-loop-i-preserved c = (runs_on _ _ _ _ _ _ c.loop-i-test.true c.bits_of-bits.ensures c.run_len-n.ensures c.put_run-p.ensures ∙ c.loop-i.invariant.0, omega arith)
-
-pub shape_of-out : goal.shape_of-out
-shape_of-out c = c.loop-i.invariant.1
+pub loop-run-preserved : goal.loop-run-preserved
+loop-run-preserved c =
+    let s = c.in-Some.ensures.steps in
+    runs_on c.in-Some.run'.now _ _ _ _ _ s.1 (rw s.0 at (s.2 same (answers_always _ _ _ (λ f a r q k. search (rules, tests)))).1) c.bits_of.ensures refl c.put_run-p.ensures
+    ∙ (rw s.0 at c.loop-run.invariant)
 
 pub returns : goal.returns
-returns c = sym (runs_end _ _ _ c.loop-i-test.false) ∙ c.loop-i.invariant.0
+returns c = sym (runs_end _ _ c.in-None.ensures.steps.0) ∙ c.loop-run.invariant

@@ -1,12 +1,7 @@
 -- `kernels::tuning::is_tuned` meets its contract: both numbers have the same bits.
-use mathlib.Core.Path.{sym}
-use mathlib.Core.Bool.{true≢false}
 use Rattle.kernels.proofs.tuning.is_tuned.Goals as goal
 
 pub returns-then-same : goal.returns-then-same
 returns-then-same c e =
     let pitch = c.same.ensures c.if-same.true in
     record { number = pitch.0; pitch_is = pitch.1; character_is = (c.same-then-same.ensures e).1 }
-
-pub returns : goal.returns
-returns c e = absurd (true≢false (sym e))

@@ -20,12 +20,12 @@ returns c =
       rw (c.once.ensures, c.teeth_of-n.ensures, cap.ensures),
     )
 
-pub overflow_cast-n : goal.overflow_cast-n
-unfolding teeth_of
-overflow_cast-n c = omega (arith, c.teeth_of-n.ensures)
-
 pub overflow_mul-result : goal.overflow_mul-result
 overflow_mul-result c =
     let n = c.teeth_of-n in
     let mark = once_most c.capped_of-c.result.over in
     omega (arith, ap (λ (t : ℕ). t * c.once.result) n.ensures, chord_most c.args.p.chord c.once.result (omega (arith, c.once.ensures, mark)))
+
+pub overflow_cast-n : goal.overflow_cast-n
+unfolding teeth_of
+overflow_cast-n c = omega (arith, c.teeth_of-n.ensures)

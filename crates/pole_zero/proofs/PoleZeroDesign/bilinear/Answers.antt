@@ -1,5 +1,4 @@
 -- `PoleZeroDesign::bilinear` meets its contract: the face's four states' points and their sections, by the calls' contracts.
-use native.Mathlib.Omega.{arith}
 use Rattle.pole_zero.specs.PoleZero.{bilinear_of}
 use Rattle.pole_zero.proofs.PoleZeroDesign.bilinear.Goals as goal
 
@@ -17,15 +16,3 @@ returns c =
       c.section.ensures,
       c.point.ensures,
     )
-
-pub point-requires : goal.point-requires
-point-requires c = (omega arith, omega arith)
-
-pub point-requires-2 : goal.point-requires-2
-point-requires-2 c = (omega arith, omega arith)
-
-pub point-requires-3 : goal.point-requires-3
-point-requires-3 c = (omega arith, omega arith)
-
-pub point-requires-4 : goal.point-requires-4
-point-requires-4 c = (omega arith, omega arith)

@@ -1,5 +1,4 @@
 -- `Table::with_point` meets its contract: by the test whether the point is bypassed.
-use native.Mathlib.Omega.{arith}
 use Rattle.pole_zero.specs.PoleZero.{with_point}
 use Rattle.pole_zero.proofs.Table.with_point.Goals as goal
 
@@ -10,7 +9,3 @@ returns c = rw (c.with_section.ensures, ← c.is_bypassed.ensures, c.if-is_bypas
 pub returns-then-is_bypassed : goal.returns-then-is_bypassed
 unfolding with_point
 returns-then-is_bypassed c = rw (← c.is_bypassed.ensures, c.if-is_bypassed.true)
-
-pub with_section-requires : goal.with_section-requires
-unfolding with_point
-with_section-requires c = (omega arith, omega arith)

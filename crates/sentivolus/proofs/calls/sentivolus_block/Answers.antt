@@ -1,20 +1,25 @@
 -- `sentivolus::calls::sentivolus_block` meets its contract: the setup is the caller's numbers, and what `block` leaves is handed on.
 use mathlib.Core.Path.{subst}
-use Rattle.voices.specs.Calls.{call_block, call}
 use Rattle.checks.specs.declared.Setup.{Setup}
-use Rattle.checks.specs.Setup.{engine}
 use Rattle.checks.specs.Checks.{bank_of, block_from}
-use Rattle.bank.specs.Bank.{before}
-use Rattle.sentivolus.specs.Calls.{BlockLeft}
-use Rattle.sentivolus.proofs.Left.{block_left}
+use Rattle.sentivolus.specs.Calls.{BlockLeaves}
+use Rattle.sentivolus.proofs.Left.{block_done, block_refused}
 use Rattle.sentivolus.proofs.calls.sentivolus_block.Goals as goal
 
-pub returns : goal.returns
-returns c =
+pub returns-in-Ok : goal.returns-in-Ok
+returns-in-Ok c =
     let a = c.args in
     let q = block_from a.frames a.pitch.now a.steered a.x.now a.y.now a.audio.now a.counts.now in
     let b = bank_of a.targets.now a.records.now a.delay.now a.cursor.now in
-    subst
-    (λ (s : Setup). BlockLeft (call (engine s) s.voices (call_block q) (before b)) q a.rendered.now c.number_of.result c.cursor_of.result c.frames_or.result a.targets.now c.block-a.new.records c.block-a.new.delay c.block-a.new.audio c.block-a.new.counts)
-    c.setup_of-s.ensures
-    (block_left _ q b _ _ c.block-a.result _ _ _ _ _ a.rendered.now c.number_of.ensures c.cursor_of.ensures c.frames_or.ensures c.block-a.ensures)
+    let l = c.block-answer.new in
+    subst (λ (s : Setup). BlockLeaves s q b a.rendered.now 0 c.in-Ok.block.cursor c.in-Ok.block.frames l.records l.delay l.audio l.counts) c.setup_of-s.ensures
+    (block_done _ q b _ _ _ _ _ a.rendered.now c.block-answer.ensures _ c.in-Ok.is)
+
+pub returns-in-Err : goal.returns-in-Err
+returns-in-Err c =
+    let a = c.args in
+    let q = block_from a.frames a.pitch.now a.steered a.x.now a.y.now a.audio.now a.counts.now in
+    let b = bank_of a.targets.now a.records.now a.delay.now a.cursor.now in
+    let l = c.block-answer.new in
+    subst (λ (s : Setup). BlockLeaves s q b a.rendered.now c.from.result a.cursor.now a.rendered.now l.records l.delay l.audio l.counts) c.setup_of-s.ensures
+    (block_refused _ q b _ _ _ _ _ a.rendered.now c.block-answer.ensures _ _ c.in-Err.is c.from.ensures)

@@ -1,5 +1,4 @@
 -- `sentivolus::calls::sentivolus_open` meets its contract: the setup is the caller's numbers, and what `open` leaves is handed on.
-use mathlib.Core.List.{[]}
 use mathlib.Core.Path.{subst}
 use Rattle.voices.specs.Calls.{open_verdict}
 use Rattle.checks.specs.declared.Setup.{Setup}
@@ -15,6 +14,6 @@ returns c =
     let a = c.args in
     let b = bank_of a.targets.now a.records.now a.delay.now 0 in
     subst
-    (λ (s : Setup). ListsLeft (open_by (open_verdict (engine s) s.voices b) s b) c.number_of.result c.open-opened.new.targets c.open-opened.new.records c.open-opened.new.delay)
+    (λ (s : Setup). ListsLeft (open_by (open_verdict (engine s) s.voices b) s b) c.answer_number.result c.open.new.targets c.open.new.records c.open.new.delay)
     c.setup_of-s.ensures
-    (lists_left _ c.open-opened.result.answer _ 0 _ _ _ [] [] c.number_of.ensures c.open-opened.ensures.does)
+    (lists_left _ c.open.result.answer _ 0 _ _ _ c.answer_number.ensures c.open.ensures.does)

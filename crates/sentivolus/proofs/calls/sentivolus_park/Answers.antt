@@ -10,4 +10,4 @@ pub returns : goal.returns
 returns c =
     let a = c.args in
     let b = bank_of a.targets.now a.records.now a.delay.now a.cursor in
-    subst (λ (s : Setup). ParkLeft s b a.file.now c.number_of.result c.park.new.file) c.setup_of-s.ensures (park_left _ b _ _ _ _ c.number_of.ensures c.park.ensures)
+    subst (λ (s : Setup). ParkLeft s b a.file.now c.answer_number.result c.park.new.file) c.setup_of-s.ensures (park_left _ b _ _ _ _ c.answer_number.ensures c.park.ensures)

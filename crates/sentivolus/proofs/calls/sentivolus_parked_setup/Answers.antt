@@ -1,12 +1,9 @@
--- `sentivolus::calls::sentivolus_parked_setup` meets its contract: what the reader answers goes to its places, or what stood there.
-use mathlib.Core.Path.{ap, ◌∙◌}
-use Rattle.checks.specs.declared.Setup.{Setup}
-use Rattle.sentivolus.specs.Answers.{setup_left}
-use Rattle.sentivolus.proofs.Held.{setup_left_lem}
+-- `sentivolus::calls::sentivolus_parked_setup` meets its contract: what the reader answers goes to its places, or nothing does.
+use Rattle.sentivolus.proofs.Held.{setup_done, setup_refused}
 use Rattle.sentivolus.proofs.calls.sentivolus_parked_setup.Goals as goal
 
-pub returns : goal.returns
-returns c =
-    setup_left_lem _ _ _ _ c.parked_setup-held.result _ _ _ c.parked_setup-held.ensures c.held_number.ensures
-    (c.put_setup.ensures ∙ c.setup_left.ensures ∙ ap (λ (s : Setup). setup_left c.parked_setup-held.result s) c.setup_of-given.ensures)
-    c.cursor_left.ensures
+pub returns-in-Ok : goal.returns-in-Ok
+returns-in-Ok c = setup_done _ _ _ _ _ c.parked_setup.ensures _ _ c.in-Ok.is c.put_setup.ensures
+
+pub returns-in-Err : goal.returns-in-Err
+returns-in-Err c = setup_refused _ _ _ _ _ c.parked_setup.ensures _ _ c.in-Err.is c.from.ensures

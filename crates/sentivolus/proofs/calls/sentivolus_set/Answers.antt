@@ -16,6 +16,6 @@ returns c =
     let a = c.args in
     let p : VoiceParams = record { resonance = a.resonance; drive = a.drive; saturation = a.saturation; character = a.character; stereo_offset = a.stereo_offset; mix = a.mix; level = a.level; morph_x = a.morph_x; morph_y = a.morph_y; morph_z = a.morph_z } in
     subst
-    (λ (s : Setup). ListsLeft (call (engine s) s.voices (call_set a.voice p) (before (bank_of a.targets.now [] [] 0))) c.number_of.result c.set.new.targets [] [])
+    (λ (s : Setup). ListsLeft (call (engine s) s.voices (call_set a.voice p) (before (bank_of a.targets.now [] [] 0))) c.answer_number.result c.set.new.targets [] [])
     c.setup_of-s.ensures
-    (lists_left _ c.set.result _ 0 _ [] [] [] [] c.number_of.ensures (c.set.ensures [] []))
+    (lists_left _ c.set.result _ 0 _ [] [] c.answer_number.ensures (c.set.ensures [] []))

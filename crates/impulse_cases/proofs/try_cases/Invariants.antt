@@ -1,9 +1,0 @@
--- `try_cases` is safe and ends: each turn starts further on.
-use Rattle.std.proofs.Common.{length, ◌-◌, ◌≤◌}
-use Rattle.impulse_cases.proofs.try_cases.Given as goal
-
-abbrev pub invariant-loop-at : goal.invariant-loop-at
-invariant-loop-at g l = l.at ≤ length l.cases
-
-abbrev pub decreases-loop-at : goal.decreases-loop-at
-decreases-loop-at g l = length l.cases - l.at

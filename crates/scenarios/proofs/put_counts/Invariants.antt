@@ -1,6 +1,0 @@
--- `put_counts` is safe and ends: the numbers that are left fall.
-use Rattle.std.proofs.Common.{length, ◌-◌}
-use Rattle.scenarios.proofs.put_counts.Given as goal
-
-abbrev pub decreases-loop-i : goal.decreases-loop-i
-decreases-loop-i l = length l.counts - l.i
