@@ -70,9 +70,10 @@ pub fn park_file(
     targets: &[f32],
     records: &[f32],
     delay: &[f32],
-    words: &mut [u32; 126],
+    words: &mut [u32],
 )
     requires room { Room (image_of voices slots len parts setup.now targets.now records.now delay.now) (length out.old) }
+    requires words_len { length words.old ≡ 126 }
     ensures { out.new ≡ image_file
         (image_of voices slots len parts setup.now targets.now records.now delay.now) }
 {

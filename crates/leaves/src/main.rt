@@ -254,7 +254,7 @@ fn chord_row(s: &[u8], end: usize, cells: &[f32], out: &mut [u8], at: usize) -> 
 
 // Writes the answer of the row whose `=` is at `end`, and answers the position after it; none where the row cannot be read.
 fn answer(s: &[u8], end: usize, cells: &[f32], out: &mut [u8], at: usize) -> Option<usize> {
-    let name = s.split(|b| *b == b' ').next()?;
+    let name = words::bytes_at(s, 0);
     match name {
         b"svf" => svf_row(s, end, out, at),
         b"targets_of" => targets_row(s, end, out, at),

@@ -334,17 +334,10 @@ fn run_slots(
         (slot_in e sections.now targets.now by.entry.pitch.now by.entry.x.now by.entry.y.now first.channel first.voice
         (block_run records.old delay.old audio.old counts.old)) }
 {
-    let (seat, run) = load_slot(e, targets, records, first, 0, true);
-    let (other_seat, other_run) = load_slot(
-        e,
-        targets,
-        records,
-        second,
-        usize::from(!shared),
-        wide == 2,
-    );
-    let seats = [seat, other_seat];
-    let mut runs = [run, other_run];
+    let one = load_slot(e, targets, records, first, 0, true);
+    let two = load_slot(e, targets, records, second, usize::from(!shared), wide == 2);
+    let seats = [one.0, two.0];
+    let mut runs = [one.1, two.1];
     let mut kept = [KeptNumbers::unset(); 2];
     let mut comb = KeptPlan::unset();
     for t in 0..wide + 1 {
@@ -357,29 +350,6 @@ fn run_slots(
         return;
     }
     store_slot(e, records, counts, &seats[1], &runs[1]);
-}
-
-// A block through one slot.
-fn run_slot(
-    e: Prepared,
-    sections: &[f32; 320],
-    targets: &[f32],
-    records: &mut [f32],
-    delay: &mut [f32],
-    by: Modulation,
-    audio: &mut [f32],
-    counts: &mut [u32],
-    slot: Slot,
-)
-    requires { (Worked e) × (Lists e targets.now records.old counts.old) × (Buffers e by.pitch.now by.x.now by.y.now delay.old audio.old)
-        × (Placed e slot) }
-    ensures { block_run records.new delay.new audio.new counts.new
-        ≡ slot_in e sections.now targets.now by.entry.pitch.now by.entry.x.now by.entry.y.now slot.channel slot.voice
-        (block_run records.old delay.old audio.old counts.old) }
-{
-    run_slots(
-        e, sections, targets, records, delay, by, audio, counts, slot, slot, 1, true,
-    );
 }
 
 // Whether a structure goes two slots abreast though their pitches differ: PoleZero and the chord comb have kept numbers for one alone.
@@ -423,11 +393,11 @@ fn run_voice(
         );
         return;
     }
-    run_slot(
-        e, sections, targets, records, delay, by, audio, counts, first,
+    run_slots(
+        e, sections, targets, records, delay, by, audio, counts, first, first, 1, true,
     );
-    run_slot(
-        e, sections, targets, records, delay, by, audio, counts, second,
+    run_slots(
+        e, sections, targets, records, delay, by, audio, counts, second, second, 1, true,
     );
 }
 
@@ -481,8 +451,8 @@ fn run_next(
         );
         return 2;
     }
-    run_slot(
-        e, sections, targets, records, delay, by, audio, counts, first,
+    run_slots(
+        e, sections, targets, records, delay, by, audio, counts, first, first, 1, true,
     );
     1
 }

@@ -185,8 +185,9 @@ fn store(mut sections: [f32; 320], n: usize, t: [f32; 20]) -> [f32; 320]
     requires { n < 16 }
     ensures { result ≡ patch 20 n t sections }
 {
-    let at = n * 20;
-    sections[at..at + 20].copy_from_slice(&t);
+    for i in 0..20 {
+        sections[n * 20 + i] = t[i];
+    }
     sections
 }
 

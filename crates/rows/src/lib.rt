@@ -33,8 +33,8 @@ fn cell_word(xs: &[f32], layout: Layout, row: usize, c: usize) -> u32
 }
 
 // The content of a part of a row, into `words`.
-fn part_words(xs: &[f32], layout: Layout, row: usize, part: usize, words: &mut [u32; 126])
-    requires { (layout.carried ≤ layout.len) × (row * layout.len + layout.len ≤ length xs.now) × (part ≤ 65535) }
+fn part_words(xs: &[f32], layout: Layout, row: usize, part: usize, words: &mut [u32])
+    requires { (layout.carried ≤ layout.len) × (row * layout.len + layout.len ≤ length xs.now) × (part ≤ 65535) × (length words.old ≡ 126) }
     ensures { words.new ≡ row_words layout.carried layout.len xs.now row part }
 {
     for (w, word) in words.iter_mut().enumerate() {
@@ -43,8 +43,9 @@ fn part_words(xs: &[f32], layout: Layout, row: usize, part: usize, words: &mut [
 }
 
 // Writes the blocks of a list. `words` is room for the content of one.
-pub fn put_rows(out: &mut [u8], layout: Layout, xs: &[f32], words: &mut [u32; 126])
+pub fn put_rows(out: &mut [u8], layout: Layout, xs: &[f32], words: &mut [u32])
     requires parked { Parked layout.first layout.kind layout.rows layout.carried layout.len layout.parts (length xs.now) (length out.old) }
+    requires words_len { length words.old ≡ 126 }
     ensures { out.new ≡ rows_written layout.first layout.kind layout.carried layout.len layout.parts xs.now (layout.rows * layout.parts) out.old }
 {
     for j in 0..layout.rows * layout.parts {

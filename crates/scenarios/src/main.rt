@@ -7,6 +7,7 @@
 
 ghost use Rattle.std.specs.Prelude.{◌≡◌, ◌≤◌, take, IfOk, IfSome};
 ghost use Rattle.std.specs.Io.KnownBytes.{Consumes};
+ghost use Rattle.words.specs.Words.{word_of};
 
 use bank::Rendered;
 use checks::{Refusal, Setup};
@@ -15,6 +16,7 @@ use filter::VoiceParams;
 use pole_zero::Table;
 use std::io::{Read, Write};
 use std::{array, io};
+use text::Span;
 
 // How many numbers of targets, records and delay are lent.
 #[derive(Clone, Copy, Default)]
@@ -85,11 +87,12 @@ struct State {
     awaited: Awaited,
 }
 
-// What the lines so far left: the state, and the numbers of the lists and of a block.
+// What the lines so far left: the state, and the numbers of the lists and of a block; and room for an audition's scratch.
 #[derive(Drop)]
 struct Replay {
     state: State,
     lists: Lists,
+    scratch: Lists,
     signals: Signals,
 }
 
@@ -131,9 +134,11 @@ fn first_mut<T>(xs: &mut [T], n: usize) -> &mut [T] {
     &mut xs[..n]
 }
 
-// Word k, where there is one.
-fn word(s: &[u8], k: usize) -> Option<&[u8]> {
-    s.split(|b| *b == b' ').nth(k)
+// The bytes of word k; none past the last.
+fn word(s: &[u8], k: usize) -> &[u8]
+    ensures { result.now ≡ word_of s.now 0 k }
+{
+    words::bytes_at(s, words::start(s, 0, k))
 }
 
 // Whether no word follows the first k.
@@ -167,16 +172,19 @@ fn u32_of(n: usize) -> u32 {
 // The run that a word is: eight hexadecimal digits, then `*` and a count where it is not 1.
 fn run_of(word: &[u8]) -> Option<Run> {
     let (digits, times) = word.split_at_checked(8)?;
-    let [value] = floats::<1>(digits, 0)?;
+    let bits = text::hexadecimal(digits, Span { start: 0, end: 8 })?;
     let count = match times {
         [] => 1,
-        [b'*', count @ ..] => decimals::<1>(count, 0)?[0],
+        [b'*', count @ ..] => words::decimal_at(count, 0, 0, 0) as usize,
         _ => return None,
     };
     if count == 0 {
         return None;
     }
-    Some(Run { value, count })
+    Some(Run {
+        value: text::float_of(bits),
+        count,
+    })
 }
 
 // Reads the runs from word k to the line's end into the list, and answers how many numbers they are; none where one cannot be
@@ -371,7 +379,7 @@ fn poke(s: &[u8], own: Lengths, lists: &mut Lists) -> Option<Command> {
         records,
         delay,
     } = lists;
-    let xs = match word(s, 1)? {
+    let xs = match word(s, 1) {
         b"t" => first_mut(targets, own.targets),
         b"r" => first_mut(records, own.records),
         b"d" => first_mut(delay, own.delay),
@@ -390,7 +398,7 @@ fn read_command(
     lists: &mut Lists,
     signals: &mut Signals,
 ) -> Option<Command> {
-    let command = match word(s, 0)? {
+    let command = match word(s, 0) {
         b"scenario" => Command::Scenario,
         b"table" => Command::Setup(Setup {
             table: table_at(s, false, 160)?,
@@ -482,6 +490,12 @@ impl Lists {
             records: [value; 1025],
             delay: [value; 65537],
         }
+    }
+
+    fn fill(&mut self, value: f32) {
+        self.targets.fill(value);
+        self.records.fill(value);
+        self.delay.fill(value);
     }
 
     // All targets, records and delay, of these lengths.
@@ -653,14 +667,15 @@ fn audition_line(
     state: &State,
     block: Block,
     lists: &Lists,
+    scratch: &mut Lists,
     signals: &mut Signals,
     out: &mut [u8],
     at: usize,
 ) -> usize {
     let mut counts = [7u32; 1024];
     let counts = first_mut(&mut counts, state.counts_lent());
-    let mut scratch = Lists::filled(0.25);
-    match audition_call(state, block, lists, &mut scratch, signals, counts) {
+    scratch.fill(0.25);
+    match audition_call(state, block, lists, scratch, signals, counts) {
         Ok(rendered) => {
             let audio = first(&signals.audio, block.audio);
             let p = put_block(out, at, rendered, block.call, audio, counts);
@@ -721,10 +736,7 @@ fn put_line(out: &mut [u8], s: &[u8]) -> usize {
 
 // Whether the line is of an answer, by its first word.
 fn is_answer(s: &[u8]) -> bool {
-    matches!(
-        word(s, 0),
-        Some([b'=' | b'o' | b'h' | b't' | b'r' | b'd' | b'c'])
-    )
+    words::name_at(b"= o h t r d c", 7, s, 0) < 7
 }
 
 impl Replay {
@@ -733,6 +745,7 @@ impl Replay {
         Replay {
             state: State::fresh(),
             lists: Lists::filled(0.0),
+            scratch: Lists::filled(0.0),
             signals: Signals {
                 pitch: [0f32; 8192],
                 x: [0f32; 8192],
@@ -748,12 +761,13 @@ impl Replay {
         let Replay {
             state,
             lists,
+            scratch,
             signals,
         } = self;
         let end = match block.call {
             Call::Block | Call::BlockSums => block_line(state, block, lists, signals, out, at),
             Call::Audition => {
-                let end = audition_line(state, block, lists, signals, out, at);
+                let end = audition_line(state, block, lists, scratch, signals, out, at);
                 state.scratch = None;
                 end
             }
@@ -770,6 +784,7 @@ impl Replay {
             state,
             lists,
             signals,
+            ..
         } = self;
         let command = read_command(s, state, lists, signals)?;
         let end = put_line(out, s);

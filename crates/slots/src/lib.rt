@@ -48,7 +48,9 @@ pub fn copy(list: &[f32], from: usize, into: &mut [f32], to: usize, n: usize)
     requires { (from + n ≤ length list.now) × (to + n ≤ length into.old) }
     ensures { into.new ≡ paste into.old to (drop from list.now) n }
 {
-    into[to..to + n].copy_from_slice(&list[from..from + n]);
+    for i in 0..n {
+        into[to + i] = list[from + i];
+    }
 }
 
 // N numbers from a place of a list on: a voice's targets, a slot's states.

@@ -1,63 +1,62 @@
 -- Laws of the numbers written in runs: a run is what its definition counts, and the numbers after it go on as if none stood before. Assumes nothing.
 use mathlib.Core.Path.{◌≡◌, refl, sym, ◌∙◌}
-use mathlib.Core.Bool.{Bool, true, false}
+use mathlib.Core.Bool.{Bool, true, false, not}
 use mathlib.Core.List.{List, [], ◌∷◌}
-use Prim.Native.Nat.{ℕ, zero, suc, ◌+◌, ◌-◌, ◌≤◌, ◌<◌}
-use native.Mathlib.Numerals.{add-one}
+use Prim.Native.Nat.{ℕ, suc, ◌+◌, ◌<◌}
 use native.Mathlib.Omega.{arith}
 use lib.Dec.{eqb}
 use lib.Ieee.{Float, nan}
-use lib.ListN.{length, drop, get_or}
-use borrow.Author.Tests.{eq-eqb, ne_eqb, eqb-true, eqb-false}
-use Rattle.std.proofs.Common.{cond, ◌++◌}
-use Rattle.std.specs.List.{prefix_len, IsChunkByPrefix}
-use Rattle.std.proofs.lemmas.List.{length-append}
-use Rattle.std.proofs.Math.Seq.{drop-append_seam}
-use Rattle.std.proofs.lemmas.List.Sums.{prefix_len_is}
-use Rattle.text.specs.Text.{Buffer, bits_of}
-use Rattle.words.specs.Words.{choose, put_run, runs_from, put_runs}
+use lib.ListN.{length, drop, get_or, take}
+use borrow.Author.Tests.{eq-eqb}
+use Rattle.std.proofs.Common.{cond}
+use Rattle.std.specs.List.{prefix_len}
+use Rattle.std.proofs.lemmas.List.{length-take}
+use Rattle.std.proofs.lemmas.List.Sums.{prefix_len-le-length}
+use Rattle.text.specs.Text.{Buffer, count, bits_of}
+use Rattle.words.specs.Words.{choose, run_of, put_run, runs_from, put_runs}
 
 -- ---- a run's length
 
-abbrev pub has : ℕ → Float → Bool
-has b x = eqb (bits_of x) b
+module _ (b : ℕ) where
+  prefix_is : (xs : List Float) → prefix_len (λ x. eqb (bits_of x) b) xs ≡ run_of b xs
+  unfolding run_of
+  prefix_is [] = refl
+  prefix_is (x ∷ xs) = go (eqb (bits_of x) b) (prefix_is xs)
+    where
+      go : (t : Bool) {m n : ℕ} → m ≡ n → cond t (1 + m) 0 ≡ count (not t) n
+      go true e = omega arith
+      go false e = refl
 
-abbrev pub same : Float → Float → Bool
-same x y = eqb (bits_of x) (bits_of y)
+  pub run_is : (xs : List Float) (n : ℕ) → n ≡ length (take (prefix_len (λ x. eqb (bits_of x) b) xs) xs) → n ≡ run_of b xs
+  run_is xs n e = omega (arith, e ∙ length-take {A = Float} _ xs, prefix_len-le-length (λ x. eqb (bits_of x) b) xs, prefix_is xs)
 
-module _ (xs : List Float) (n : ℕ) (d : Float) (h : 0 < n) (m : n ≤ length xs) (c : IsChunkByPrefix same xs n) where
-  -- each number of a run has the bits of the first
-  all_same : (k : ℕ) → k < n → bits_of (get_or xs k d) ≡ bits_of (get_or xs 0 d)
-  all_same zero l = refl
-  all_same (suc k) l =
-      let e : bits_of (get_or xs k d) ≡ bits_of (get_or xs (k + 1) d) = eqb-true _ _ (c.0 k d (omega arith)) in
-      sym (rw add-one at e) ∙ all_same k (omega arith)
+run_first : (b : ℕ) (x : Float) (xs : List Float) → b ≡ bits_of x → run_of b (x ∷ xs) ≡ suc (run_of b xs)
+unfolding run_of
+run_first b x xs e = rw (eq-eqb (bits_of x) b (sym e))
 
-  pub run_is : prefix_len (has (bits_of (get_or xs 0 d))) xs ≡ n
-  run_is =
-      prefix_len_is (has (bits_of (get_or xs 0 d))) xs n d m (λ k l. eq-eqb _ _ (all_same k l))
-      (λ l. ne_eqb _ _ (λ e. eqb-false _ _ (c.1 l d) (all_same (n - 1) (omega arith) ∙ sym e)))
+pub run_least : (b : ℕ) (xs : List Float) → 0 < length xs → b ≡ bits_of (get_or xs 0 nan) → 0 < run_of b xs
+run_least b [] h e = absurd (omega arith)
+run_least b (x ∷ xs) h e = omega (arith, run_first b x xs e)
 
 -- ---- all runs
 
-runs_from_lem : (b n : ℕ) (xs : List Float) (p : Buffer) → runs_from b n xs p ≡ put_runs (drop (prefix_len (has b) xs) xs) (put_run b (n + prefix_len (has b) xs) p)
-unfolding runs_from put_runs
+runs_from_lem : (b n : ℕ) (xs : List Float) (p : Buffer) → runs_from b n xs p ≡ put_runs (drop (run_of b xs) xs) (put_run b (n + run_of b xs) p)
+unfolding runs_from put_runs run_of
 runs_from_lem b n [] p = let e : n + 0 ≡ n = omega arith in rw e
-runs_from_lem b n (x ∷ xs) p = go (eqb (bits_of x) b) (prefix_len (has b) xs) (runs_from_lem b (suc n) xs p)
+runs_from_lem b n (x ∷ xs) p = go (eqb (bits_of x) b) (runs_from_lem b (suc n) xs p)
   where
-    go : (t : Bool) (k : ℕ) → runs_from b (suc n) xs p ≡ put_runs (drop k xs) (put_run b (suc n + k) p) → choose t (runs_from b (suc n) xs p) (runs_from (bits_of x) 1 xs (put_run b n p)) ≡ put_runs (drop (cond t (1 + k) 0) (x ∷ xs)) (put_run b (n + cond t (1 + k) 0) p)
-    go true k h = let e : suc n + k ≡ n + suc k = omega arith in let o : 1 + k ≡ suc k = omega arith in h ∙ rw (e, o)
-    go false k h = let e : n + 0 ≡ n = omega arith in rw e
+    go : (t : Bool) → runs_from b (suc n) xs p ≡ put_runs (drop (run_of b xs) xs) (put_run b (suc n + run_of b xs) p) → choose t (runs_from b (suc n) xs p) (runs_from (bits_of x) 1 xs (put_run b n p)) ≡ put_runs (drop (count (not t) (run_of b xs)) (x ∷ xs)) (put_run b (n + count (not t) (run_of b xs)) p)
+    go true h = let e : suc n + run_of b xs ≡ n + suc (run_of b xs) = omega arith in h ∙ rw e
+    go false h = let e : n + 0 ≡ n = omega arith in rw e
 
--- a run and the numbers after it
-pub runs_on : (x t : List Float) (b n : ℕ) (p q : Buffer) → 0 < length x → IsChunkByPrefix same (x ++ t) (length x) → b ≡ bits_of (get_or x 0 nan) → n ≡ length x → q ≡ put_run b n p → put_runs t q ≡ put_runs (x ++ t) p
+-- a run, and the numbers t after it
+pub runs_on : (b : ℕ) (xs t : List Float) (n : ℕ) (p q : Buffer) → 0 < length xs → b ≡ bits_of (get_or xs 0 nan) → n ≡ run_of b xs → t ≡ drop n xs → q ≡ put_run b n p → put_runs t q ≡ put_runs xs p
 unfolding put_runs
-runs_on [] t b n p q h c f g i = absurd (omega arith)
-runs_on (y ∷ x) t b n p q h c f g i =
-    let r : prefix_len (has (bits_of y)) (y ∷ x ++ t) ≡ length (y ∷ x) = run_is (y ∷ x ++ t) (length (y ∷ x)) nan h (omega (arith, length-append x t)) c in
-    let k : prefix_len (has (bits_of y)) (x ++ t) ≡ length x = omega (arith, rw (eq-eqb (bits_of y) (bits_of y) refl) at r) in
-    let o : 1 + length x ≡ suc (length x) = omega arith in
-    rw (runs_from_lem (bits_of y) 1 (x ++ t) p, k, drop-append_seam x t, i, f, g, o)
+runs_on b [] t n p q h e f d g = absurd (omega arith)
+runs_on b (x ∷ xs) t n p q h e f d g =
+    let m : n ≡ suc (run_of b xs) = f ∙ run_first b x xs e in
+    let o : 1 + run_of b xs ≡ suc (run_of b xs) = omega arith in
+    rw (d, g, m, ← e, runs_from_lem b 1 xs p, o)
 
 pub runs_end : (xs : List Float) (p : Buffer) → length xs ≡ 0 → put_runs xs p ≡ p
 unfolding put_runs

@@ -1,6 +1,6 @@
 -- The words of a line read by their place, a name found in a list of names, and f32 written by their bits, over text's bytes and buffers. 32 is the
 -- blank, 42 `*`. Definitions only. Assumes nothing.
-use Rattle.std.specs.Prelude.{ℕ, zero, suc, ◌+◌, Bool, true, false, cond, ◌&&◌, List, [], ◌∷◌, ltb, eqb, length, Option, None, Some, is_some, Float}
+use Rattle.std.specs.Prelude.{ℕ, zero, suc, ◌+◌, Bool, true, false, cond, not, ◌&&◌, List, [], ◌∷◌, ltb, eqb, length, Option, None, Some, is_some, Float}
 use Rattle.std.specs.Option.{unwrap_or}
 use Rattle.std.specs.Str.{bytes_eq}
 use Rattle.std.specs.Float.{binary32}
@@ -58,6 +58,11 @@ place_from names name at zero = 0
 place_from names name at (suc n) = count (bytes_eq (bytes_at names at) name) (place_from names name (next_at names at) n)
 
 -- ---- numbers in runs
+
+-- how many numbers at a list's front have these bits
+unfoldable pub run_of : ℕ → List Float → ℕ
+run_of b [] = 0
+run_of b (x ∷ xs) = count (not (eqb (bits_of x) b)) (run_of b xs)
 
 -- the first of two buffers where the test holds, else the second
 abbrev pub choose : Bool → Buffer → Buffer → Buffer

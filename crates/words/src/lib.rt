@@ -1,10 +1,10 @@
 // The words of a line read by their place, a name found in a list of names, and f32 written by their bits.
 #![tactic(auto)]
 
-ghost use Rattle.std.specs.Prelude.{◌≡◌, ℕ, ◌<◌, ◌^◌, Bool, List};
+ghost use Rattle.std.specs.Prelude.{◌≡◌, ℕ, ◌<◌, ◌≤◌, ◌^◌, Bool, List, length};
 ghost use Rattle.text.specs.Text.{decimal_of, hex_of, bits_of, buffer, puts, hex_text};
 ghost use Rattle.words.specs.Words.{next_at, word_start, bytes_at, word_of, float_or0, value_or, is_float, is_decimal};
-ghost use Rattle.words.specs.Words.{every, place_from, put_run, put_runs};
+ghost use Rattle.words.specs.Words.{every, place_from, run_of, put_run, put_runs};
 
 // Where the word after that at `at` starts; the text's end where there is none.
 #[tactic(auto, unfolding(crate::specs::Words::next_at))]
@@ -28,7 +28,7 @@ pub fn start(s: &[u8], at: usize, k: usize) -> usize
 
 // The bytes of the word at `at`.
 #[tactic(auto, unfolding(crate::specs::Words::bytes_at))]
-fn bytes_at(s: &[u8], at: usize) -> &[u8]
+pub fn bytes_at(s: &[u8], at: usize) -> &[u8]
     ensures { result.now ≡ bytes_at s.now at }
 {
     text::bytes_of(s, text::word(s, at))
@@ -141,13 +141,25 @@ fn put_run(out: &mut [u8], at: usize, bits: u32, n: usize) -> usize
     text::put_decimal(out, p, n as u64)
 }
 
+// How many numbers at the front have these bits.
+fn run_len(xs: &[f32], bits: u32) -> usize
+    ensures count { result ≡ run_of bits xs.now }
+    ensures fits { result ≤ length xs.now }
+{
+    xs.iter().take_while(|x| text::bits_of(**x) == bits).count()
+}
+
 // Writes the numbers' bits in runs.
 pub fn put_runs(out: &mut [u8], at: usize, xs: &[f32]) -> usize
     ensures { buffer out.new result ≡ put_runs xs.now (buffer out.old at) }
 {
     let mut p = at;
-    for run in xs.chunk_by(|x, y| text::bits_of(*x) == text::bits_of(*y)) {
-        p = put_run(out, p, text::bits_of(run[0]), run.len());
+    let mut rest = xs;
+    while let [x, ..] = rest {
+        let bits = text::bits_of(*x);
+        let n = run_len(rest, bits);
+        p = put_run(out, p, bits, n);
+        (_, rest) = rest.split_at(n);
     }
     p
 }

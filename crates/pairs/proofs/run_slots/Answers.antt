@@ -19,8 +19,8 @@ apart wide p q one two e f h w same = h w (sym (ap (λ (s : Slot). s.number) e) 
 pub store_slot-requires-2 : goal.store_slot-requires-2
 store_slot-requires-2 c =
     let a = c.args in
-    let one = c.load_slot in
-    let two = c.load_slot-2 in (
+    let one = c.load_slot-one in
+    let two = c.load_slot-two in (
       placed a.e a.second two.result.0.slot two.ensures.0 c.requires.4,
       omega (arith, c.requires.1.records),
       omega (arith, c.requires.1.counts),
@@ -30,8 +30,8 @@ store_slot-requires-2 c =
 pub store_slot-requires : goal.store_slot-requires
 store_slot-requires c =
     let a = c.args in
-    let one = c.load_slot in
-    let two = c.load_slot-2 in (
+    let one = c.load_slot-one in
+    let two = c.load_slot-two in (
       placed a.e a.first one.result.0.slot one.ensures.0 c.requires.3,
       c.requires.1.records,
       c.requires.1.counts,
@@ -41,8 +41,8 @@ store_slot-requires c =
 pub loop-t-init : goal.loop-t-init
 loop-t-init c =
     let a = c.args in
-    let one = c.load_slot in
-    let two = c.load_slot-2 in
+    let one = c.load_slot-one in
+    let two = c.load_slot-two in
     let m = a.e.m in
     let kept = c.unset-kept in
     let comb = c.unset-comb in
@@ -62,8 +62,8 @@ loop-t-init c =
 pub returns-then-wide-lt2 : goal.returns-then-wide-lt2
 returns-then-wide-lt2 c =
     let a = c.args in
-    let one = c.load_slot in
-    let two = c.load_slot-2 in
+    let one = c.load_slot-one in
+    let two = c.load_slot-two in
     let l = c.loop-t in
     let stored = c.store_slot.ensures in
     slots_are a.e a.sections.now a.by.pitch.now a.by.x.now a.by.y.now one.result.0 two.result.0 a.wide c.requires.0
@@ -79,8 +79,8 @@ returns-then-wide-lt2 c =
 pub returns : goal.returns
 returns c =
     let a = c.args in
-    let one = c.load_slot in
-    let two = c.load_slot-2 in
+    let one = c.load_slot-one in
+    let two = c.load_slot-two in
     let l = c.loop-t in
     let stored = c.store_slot.ensures in
     let last = c.store_slot-2.ensures in

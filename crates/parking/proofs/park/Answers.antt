@@ -1,5 +1,6 @@
 -- `parking::park` meets its contract: by the verdict. A refusal changes nothing; accepted, `park_file` has written the words of the setup and the lists,
 -- which are f32s, so that they come back. Assumes nothing.
+use mathlib.Core.Path.{refl}
 use native.Mathlib.Omega.{arith}
 use Rattle.std.proofs.lemmas.Result.{err_from_is_err_and}
 use Rattle.checks.specs.Checks.{bank_of}
@@ -39,7 +40,10 @@ pub park_file-requires : goal.park_file-requires
 park_file-requires c =
     let a = c.args in
     let o = fine_by c.park_check.ensures c.in_ok-park_check.was in
-    record { room = room_for a.setup (bank_of a.targets.now a.records.now a.delay.now a.cursor) a.file.now o _ c.setup_words.ensures.0 _ c.ring_len-len.ensures }
+    record {
+      room = room_for a.setup (bank_of a.targets.now a.records.now a.delay.now a.cursor) a.file.now o _ c.setup_words.ensures.0 _ c.ring_len-len.ensures;
+      words_len = refl;
+    }
 
 pub returns : goal.returns
 unfolding answer_of
